@@ -1,0 +1,2 @@
+// The converter: low-level events in, kept events out.
+pub mod convert;

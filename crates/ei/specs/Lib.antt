@@ -1,0 +1,5 @@
+pub mod Capabilities
+pub mod Events
+pub mod Numbers
+pub mod Refusals
+pub mod Texts

@@ -1,0 +1,4 @@
+pub mod Leaving
+pub mod Waiting
+pub mod Spelling
+pub mod Showing

@@ -1,0 +1,5 @@
+pub mod Devices
+pub mod Drain
+pub mod History
+pub mod Law
+pub mod Runs

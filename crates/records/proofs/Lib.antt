@@ -1,0 +1,4 @@
+pub mod Found
+pub mod Listing
+pub mod Places
+pub mod Rows

@@ -1,0 +1,3 @@
+pub mod Filters
+pub mod Handles
+pub mod Stores
