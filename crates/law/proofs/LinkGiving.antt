@@ -64,14 +64,14 @@ given-up-still row xs = tame (each-map Same-handles (less (row .list)) xs (all-h
 detached-still : (n : ℕ) (f : DeviceRow → DeviceRow) → ((x : DeviceRow) → f x .head ≡ detached-head (x .head)) → (xs : List DeviceRow) → Devices-still xs (changed (device-at n Live) f xs)
 detached-still n f heads xs =
     tame (each-changed Same-handles (device-at n Live) f (λ x h. refl) xs
-      (λ x w h. ap (λ z. cond (same-standing (z .standing) Pending) false (eqb (z .handle) h)) (heads x) ∙ sym (by-own-handle h x (live-settled n x (first-passes (device-at n Live) xs x w)))))
+    (λ x w h. ap (λ z. cond (same-standing (z .standing) Pending) false (eqb (z .handle) h)) (heads x) ∙ sym (by-own-handle h x (live-settled n x (first-passes (device-at n Live) xs x w)))))
 
 -- a device is destroyed
 gone-still : (n : ℕ) (row : DeviceRow) (xs : List DeviceRow) → Devices-still xs (device-steps n Live (steps.Take stages.Destroyed) (all-step (steps.GiveUp (row .list)) (without (device-at n Pending) xs)))
 gone-still n row xs =
     let ys : List DeviceRow = all-step (steps.GiveUp (row .list)) (without (device-at n Pending) xs) in
     both (drop (device-at n Pending)) (both (given-up-still row (without (device-at n Pending) xs))
-      (subst (Devices-still ys) (sym (stepped-as n Live stages.Destroyed destroyed (λ x. refl) ys)) (detached-still n destroyed (λ x. refl) ys)))
+    (subst (Devices-still ys) (sym (stepped-as n Live stages.Destroyed destroyed (λ x. refl) ys)) (detached-still n destroyed (λ x. refl) ys)))
 
 -- a device makes way for the next of its number
 superseded-still : (n h : ℕ) (row : DeviceRow) (xs : List DeviceRow) → Devices-still xs (device-steps n Live (steps.Take (stages.Done h)) (all-step (steps.GiveUp (row .list)) xs))
@@ -81,12 +81,12 @@ superseded-still n h row xs =
 
 -- the device that is done has the next handle
 done-given : (n h : ℕ) (row : DeviceRow) (xs : List DeviceRow) → first (device-at n Pending) xs ≡ Some row
-  → Given device-by-handle h xs (device-steps n Pending (steps.Take (stages.Done h)) (device-steps n Live (steps.Take (stages.Done h)) (all-step (steps.GiveUp (row .list)) xs)))
+    → Given device-by-handle h xs (device-steps n Pending (steps.Take (stages.Done h)) (device-steps n Live (steps.Take (stages.Done h)) (all-step (steps.GiveUp (row .list)) xs)))
 done-given n h row xs e =
     let ys : List DeviceRow = device-steps n Live (steps.Take (stages.Done h)) (all-step (steps.GiveUp (row .list)) xs) in
     let found = mapped-some type-of (first (device-at n Pending) ys) (type-of row) (pending-after n h row xs e) in
     subst (Given device-by-handle h xs) (sym (stepped-as n Pending (stages.Done h) (gone-live h) (λ x. refl) ys))
-      (given (device-at n Pending) (gone-live h) (found .0) (superseded-still n h row xs) (found .1) (λ k. refl))
+    (given (device-at n Pending) (gone-live h) (found .0) (superseded-still n h row xs) (found .1) (λ k. refl))
 
 -- Seats.
 
@@ -122,7 +122,7 @@ set-up-head (setups.Capability c m) row = refl
 seat-told-still : (n : ℕ) (x : SeatSetup) (xs : List SeatRow) → Seats-still xs (seat-steps n Pending (seat-stages.Setup x) xs)
 seat-told-still n x xs =
     subst (Seats-still xs) (sym (seat-stepped-as n Pending (seat-stages.Setup x) (seat-set-up x) (λ _. refl) xs))
-      (tame (each-changed Same-seat (seat-at n Pending) (seat-set-up x) (λ _ h. refl) xs (λ row _ h. ap (λ z. cond (same-standing (z .standing) Pending) false (eqb (z .handle) h)) (set-up-head x row))))
+    (tame (each-changed Same-seat (seat-at n Pending) (seat-set-up x) (λ _ h. refl) xs (λ row _ h. ap (λ z. cond (same-standing (z .standing) Pending) false (eqb (z .handle) h)) (set-up-head x row))))
 
 seat-arrived-still : (n : ℕ) (xs : List SeatRow) → Seats-still xs (without (seat-at n Pending) xs ++ (seats.new-seat n ∷ []))
 seat-arrived-still n xs = both (drop (seat-at n Pending)) (push (seats.new-seat n) (λ h. refl))
@@ -131,8 +131,8 @@ seat-arrived-still n xs = both (drop (seat-at n Pending)) (push (seats.new-seat 
 seat-detached-still : (n : ℕ) (step : SeatStep) → ((x : SeatRow) → seat-taken Live step x ≡ superseded-seat x) → (xs : List SeatRow) → Seats-still xs (seat-steps n Live step xs)
 seat-detached-still n step is xs =
     subst (Seats-still xs) (sym (seat-stepped-as n Live step superseded-seat is xs))
-      (tame (each-changed Same-seat (seat-at n Live) superseded-seat (λ _ h. refl) xs
-        (λ x w h. sym (ap (λ z. cond (same-standing z Pending) false (eqb (x .head .handle) h)) (at-standing number-of stands n Live x (first-passes (seat-at n Live) xs x w))))))
+    (tame (each-changed Same-seat (seat-at n Live) superseded-seat (λ _ h. refl) xs
+    (λ x w h. sym (ap (λ z. cond (same-standing z Pending) false (eqb (x .head .handle) h)) (at-standing number-of stands n Live x (first-passes (seat-at n Live) xs x w))))))
 
 -- a seat is destroyed
 seat-gone-still : (n : ℕ) (xs : List SeatRow) → Seats-still xs (seat-steps n Live seat-stages.Destroyed (without (seat-at n Pending) xs))
@@ -145,10 +145,10 @@ seat-done-given n h xs t =
     let ys : List SeatRow = seat-steps n Live (seat-stages.Done h) xs in
     let was = some-any (first q xs) t in
     let found = mapped-some number-of (first q ys) (number-of (was .0))
-          (ap (λ zs. mapped number-of (first q zs)) (seat-stepped-as n Live (seat-stages.Done h) superseded-seat (λ x. refl) xs)
-            ∙ (pending-first number-of stands superseded-seat number-of (λ x. refl) n xs ∙ ap (mapped number-of) (was .1))) in
+    (ap (λ zs. mapped number-of (first q zs)) (seat-stepped-as n Live (seat-stages.Done h) superseded-seat (λ x. refl) xs)
+    ∙ (pending-first number-of stands superseded-seat number-of (λ x. refl) n xs ∙ ap (mapped number-of) (was .1))) in
     subst (Given seat-by-handle h xs) (sym (seat-stepped-as n Pending (seat-stages.Done h) (λ x. seat-with-head (live-head h (x .head)) x) (λ x. refl) ys))
-      (given q (λ x. seat-with-head (live-head h (x .head)) x) (found .0) (seat-detached-still n (seat-stages.Done h) (λ x. refl) xs) (found .1) (λ k. refl))
+    (given q (λ x. seat-with-head (live-head h (x .head)) x) (found .0) (seat-detached-still n (seat-stages.Done h) (λ x. refl) xs) (found .1) (λ k. refl))
 
 -- What a call gives.
 
@@ -207,8 +207,8 @@ giving-step b m q v (device-interface n None) = search shapes
 giving-step b m q v (device-interface n (Some o)) = let to = devices-only m (equipped-still n o (m .devices)) in search shapes
 giving-step b m q v (device-done n) =
     some-kept (Gives m) b (device-done n) (first (device-at n Pending) (m .devices)) _ _ (λ _. record { kept = q })
-      (λ row e. some-kept (Gives m) b (device-done n) (type-of row) _ _ (λ _. record { kept = devices-only m (drop (device-at n Pending)) })
-        (λ _ _. done-full (Gives m) b m q n (no-places-for (next-handle m) (m .store)) (no-handle m) _ (record { kept = to-device stay (done-given n (next-handle m) row (m .devices) e) refl })))
+    (λ row e. some-kept (Gives m) b (device-done n) (type-of row) _ _ (λ _. record { kept = devices-only m (drop (device-at n Pending)) })
+    (λ _ _. done-full (Gives m) b m q n (no-places-for (next-handle m) (m .store)) (no-handle m) _ (record { kept = to-device stay (done-given n (next-handle m) row (m .devices) e) refl })))
 giving-step b m q v (device-speech n s x) = search shapes
 giving-step b m q v (device-frame n s t) = search shapes
 giving-step b m q v (device-destroyed n s) =

@@ -69,8 +69,8 @@ pending-first {X} number stands f v gone n xs =
     let q : X → Bool = at-number number stands n Pending in
     let live : X → Bool = at-number number stands n Live in
     each-first q v xs (changed live f xs) (each-changed (Alike q v) live f (λ x. (refl, λ _. refl)) xs
-      (λ x w. let was = at-other-by number stands n Pending Live x (at-standing number stands n Live x (first-passes live xs x w)) refl in
-        (at-other-by number stands n Pending Detached (f x) (gone x) refl ∙ sym was, λ u. absurd (both-ways (q x) was u))))
+    (λ x w. let was = at-other-by number stands n Pending Live x (at-standing number stands n Live x (first-passes live xs x w)) refl in
+    (at-other-by number stands n Pending Detached (f x) (gone x) refl ∙ sym was, λ u. absurd (both-ways (q x) was u))))
 
 -- a row of this standing is found by its number
 pub at-own : (k n : ℕ) (s : Standing) (row : DeviceRow) → row .head .number ≡ n → same-standing (row .head .standing) s ≡ true → device-at k s row ≡ eqb k n
@@ -100,9 +100,9 @@ found-by-handle row p = by-own-handle (handle-of row) row p ∙ eq-eqb (handle-o
 pub by-handle-is : (h : ℕ) (row : DeviceRow) → device-by-handle h row ≡ true → (pending row ≡ false) × (handle-of row ≡ h)
 by-handle-is h row t =
     ⊎-elim
-      (λ p. absurd (both-ways (device-by-handle h row) (cond-true (pending row) _ _ p) t))
-      (λ p. (p, eqb-true (handle-of row) h (sym (by-own-handle h row p) ∙ t)))
-      (cases-bool (pending row))
+    (λ p. absurd (both-ways (device-by-handle h row) (cond-true (pending row) _ _ p) t))
+    (λ p. (p, eqb-true (handle-of row) h (sym (by-own-handle h row p) ∙ t)))
+    (cases-bool (pending row))
 
 -- a row that is not found by a handle has another
 pub other-handle : (h : ℕ) (row : DeviceRow) → device-by-handle h row ≡ false → pending row ≡ false → eqb (handle-of row) h ≡ false

@@ -43,9 +43,9 @@ pub entry-with : (c : DeviceCapability) (e : Option Entry) (l : InterfaceList) (
 unfolding with-entry
 entry-with c e l k =
     ⊎-elim
-      (λ t. ap (λ i. getD (set (l .entries) (index-of c) e) i None) (eqb-true (index-of k) (index-of c) t) ∙ (getD-set-same (l .entries) (index-of c) e None (omega (arith, l .long, index-below c)) ∙ sym (cond-true (same-kind k c) _ _ t)))
-      (λ t. getD-set-other (l .entries) (index-of c) (index-of k) e None (eqb-false (index-of k) (index-of c) t) ∙ sym (cond-false (same-kind k c) _ _ t))
-      (cases-bool (same-kind k c))
+    (λ t. ap (λ i. getD (set (l .entries) (index-of c) e) i None) (eqb-true (index-of k) (index-of c) t) ∙ (getD-set-same (l .entries) (index-of c) e None (omega (arith, l .long, index-below c)) ∙ sym (cond-true (same-kind k c) _ _ t)))
+    (λ t. getD-set-other (l .entries) (index-of c) (index-of k) e None (eqb-false (index-of k) (index-of c) t) ∙ sym (cond-false (same-kind k c) _ _ t))
+    (cases-bool (same-kind k c))
 
 -- by place
 owned-at : (es : List (Option Entry)) (i : ℕ) → getD (map owned-entry es) i None ≡ owned-entry (getD es i None)

@@ -64,8 +64,8 @@ finish-as b hs xs l n v is not-live free =
     record {
       counted = refl;
       set-up = λ k. cond-both (eqb k n) _ _ (λ w. w ≡ mapped listing (first (device-at k Pending) ys))
-        (λ t. subst (λ j. None ≡ mapped listing (first (device-at j Pending) ys)) (sym (eqb-true k n t)) (sym (ap (mapped listing) (nobody-first q ys (changed-out q g (λ x _. at-other n Pending Live (g x) refl refl) xs (l .one-pending n))))))
-        (λ t. l .set-up k ∙ sym (each-first (device-at k Pending) listing xs ys (each-changed (Alike (device-at k Pending) listing) q g (λ x. (refl, λ _. refl)) xs
+          (λ t. subst (λ j. None ≡ mapped listing (first (device-at j Pending) ys)) (sym (eqb-true k n t)) (sym (ap (mapped listing) (nobody-first q ys (changed-out q g (λ x _. at-other n Pending Live (g x) refl refl) xs (l .one-pending n))))))
+          (λ t. l .set-up k ∙ sym (each-first (device-at k Pending) listing xs ys (each-changed (Alike (device-at k Pending) listing) q g (λ x. (refl, λ _. refl)) xs
           (λ x w. let was = at-other-number k n Pending Pending x (first-passes q xs x w) t in (at-other k Pending Live (g x) refl refl ∙ sym was, λ z. absurd (both-ways _ was z))))));
       alive = λ k. ap (cond (eqb k n) (Some h)) (l .alive k) ∙ sym (first-changed-by (device-at k Live) q g handle-of xs r e (at-other k Live Pending r (at-standing-is n Pending r u) refl) (eqb k n) (at k) (none-live k));
       owned = λ o. ap (cond (holds (v (o .kind)) (o .number)) (Some h)) (l .owned o) ∙ sym (first-changed-by (owns-it o) q g handle-of xs r e (s .owns-nothing (pending-is n r u) o) (holds (v (o .kind)) (o .number)) (owns o) (none-owns o));
@@ -74,14 +74,14 @@ finish-as b hs xs l n v is not-live free =
       one-handle = λ k. lone-changed-by (device-by-handle k) q g xs r e (eqb h k) refl (none-has k) (l .one-handle k);
       one-owner = λ o. lone-changed-by (owns-it o) q g xs r e (holds (v (o .kind)) (o .number)) (owns o) (none-owns o) (l .one-owner o);
       sound = all-changed (Sound (put (b .lists) h v) (b .retired) h) q g xs r e
-        (record {
-          owns-nothing = λ t. absurd (both-ways false refl t);
-          given = λ _. omega arith;
-          listed = λ _. cond-true (eqb h h) _ _ (eq-eqb h h refl) ∙ (sym (found .2) ∙ sym (objects-owned (r .list)));
-          current = λ _. ⊎-elim (λ t. absurd (let low = l .was-given h t in omega arith)) (λ t. t) (cases-bool (b .retired h))
-        })
-        (all-weaker S _ (sound-next (b .lists) (b .retired) hs v) (without q xs) (all-without S q xs (l .sound)));
-      was-given = λ k t. omega (arith, l .was-given k t)
+          (record {
+            owns-nothing = λ t. absurd (both-ways false refl t);
+            given = λ _. omega arith;
+            listed = λ _. cond-true (eqb h h) _ _ (eq-eqb h h refl) ∙ (sym (found .2) ∙ sym (objects-owned (r .list)));
+            current = λ _. ⊎-elim (λ t. absurd (let low = l .was-given h t in omega arith)) (λ t. t) (cases-bool (b .retired h));
+          })
+          (all-weaker S _ (sound-next (b .lists) (b .retired) hs v) (without q xs) (all-without S q xs (l .sound)));
+      was-given = λ k t. omega (arith, l .was-given k t);
     }
 
 -- a device that is set up is done

@@ -63,8 +63,8 @@ equips b hs xs l n o = subst (Linked (equipped n o b) hs) (sym (stepped-as n Pen
 pub arrives : (b : Book) (hs : ℕ) (xs : List DeviceRow) → Linked b hs xs → (n seat : ℕ) → Linked (with-setup (put (b .setup) n (Some (λ _. None))) b) hs (without (device-at n Pending) xs ++ (new-device n seat ∷ []))
 arrives b hs xs l n seat =
     subst (λ w. Linked (with-setup w b) hs (without (device-at n Pending) xs ++ (new-device n seat ∷ [])))
-      (fun-ext (λ k. cond-over (eqb k n) (Some (λ _. None)) None (b .setup k)))
-      (add-pending (with-setup (put (b .setup) n None) b) hs (without (device-at n Pending) xs) (drop-pending b hs xs l n) n seat (cond-true (eqb n n) _ _ (eq-eqb n n refl)))
+    (fun-ext (λ k. cond-over (eqb k n) (Some (λ _. None)) None (b .setup k)))
+    (add-pending (with-setup (put (b .setup) n None) b) hs (without (device-at n Pending) xs) (drop-pending b hs xs l n) n seat (cond-true (eqb n n) _ _ (eq-eqb n n refl)))
 
 -- a device is done: others give up what it lists, the live one of its number is detached, and it is live
 finished-same : (n : ℕ) (v : DeviceCapability → Option ℕ) (b : Book) → finished n v (with-live (put (b .live) n None) (with-owner (λ o. cond (holds (v (o .kind)) (o .number)) None (b .owner o)) b)) ≡ finished n v b
@@ -74,7 +74,7 @@ finished-same n v b = λ i. record {
   live = λ k. cond-over (eqb k n) (Some (b .handles + 1)) None (b .live k) i;
   lists = put (b .lists) (b .handles + 1) v;
   owner = λ o. cond-over (holds (v (o .kind)) (o .number)) (Some (b .handles + 1)) None (b .owner o) i;
-  retired = b .retired
+  retired = b .retired;
 }
 
 -- the type that a device has so far
@@ -87,13 +87,13 @@ pending-after n h row xs e =
     let q : DeviceRow → Bool = device-at n Pending in
     let ys : List DeviceRow = all-step (steps.GiveUp (row .list)) xs in
     ap (λ zs. mapped type-of (first q zs)) (stepped-as n Live (stages.Done h) superseded (λ x. refl) ys)
-      ∙ (pending-first (λ x. x .head .number) (λ x. x .head .standing) superseded type-of (λ x. refl) n ys
-      ∙ (each-first q type-of xs ys (each-map (Alike q type-of) (less (row .list)) xs (all-here _ (λ x. (refl, λ _. refl)) xs))
-      ∙ ap (mapped type-of) e))
+    ∙ (pending-first (λ x. x .head .number) (λ x. x .head .standing) superseded type-of (λ x. refl) n ys
+    ∙ (each-first q type-of xs ys (each-map (Alike q type-of) (less (row .list)) xs (all-here _ (λ x. (refl, λ _. refl)) xs))
+    ∙ ap (mapped type-of) e))
 
 -- the Done of a device that is being set up
 pub done-live : (b : Book) (hs : ℕ) (xs : List DeviceRow) → Linked b hs xs → (n : ℕ) (row : DeviceRow) → first (device-at n Pending) xs ≡ Some row
-  → Linked (at-some (b .setup n) b (λ v. finished n v b)) (hs + 1) (device-steps n Pending (steps.Take (stages.Done (hs + 1))) (device-steps n Live (steps.Take (stages.Done (hs + 1))) (all-step (steps.GiveUp (row .list)) xs)))
+    → Linked (at-some (b .setup n) b (λ v. finished n v b)) (hs + 1) (device-steps n Pending (steps.Take (stages.Done (hs + 1))) (device-steps n Live (steps.Take (stages.Done (hs + 1))) (all-step (steps.GiveUp (row .list)) xs)))
 done-live b hs xs l n row e =
     let h : ℕ = hs + 1 in
     let v : DeviceCapability → Option ℕ = listing row in
@@ -105,14 +105,14 @@ done-live b hs xs l n row e =
     let l₁ : Linked b₁ hs xs₁ = give-up b hs xs l (row .list) in
     let l₂ : Linked b₂ hs xs₂ = subst (Linked b₂ hs) (sym (stepped-as n Live (stages.Done h) superseded (λ x. refl) xs₁)) (supersede b₁ hs xs₁ l₁ n) in
     let l₃ : Linked (finished n v b₂) h (device-steps n Pending (steps.Take (stages.Done h)) xs₂) =
-          subst (Linked (finished n v b₂) h) (sym (stepped-as n Pending (stages.Done h) (gone-live h) (λ x. refl) xs₂))
-            (finish b₂ hs xs₂ l₂ n v is (cond-true (eqb n n) _ _ (eq-eqb n n refl)) (λ o t. cond-true (holds (v (o .kind)) (o .number)) _ _ t)) in
+    subst (Linked (finished n v b₂) h) (sym (stepped-as n Pending (stages.Done h) (gone-live h) (λ x. refl) xs₂))
+    (finish b₂ hs xs₂ l₂ n v is (cond-true (eqb n n) _ _ (eq-eqb n n refl)) (λ o t. cond-true (holds (v (o .kind)) (o .number)) _ _ t)) in
     let P : Book → Type 0 = λ w. Linked w h (device-steps n Pending (steps.Take (stages.Done h)) xs₂) in
     subst (λ w. P (at-some w b (λ z. finished n z b))) (sym is) (subst P (finished-same n v b) l₃)
 
 -- a live device is destroyed: all give up what it lists
 ended-as : (b : Book) (hs : ℕ) (xs : List DeviceRow) → Linked b hs xs → (n h : ℕ) (row : DeviceRow) → first (device-at n Live) xs ≡ Some row → handle-of row ≡ h
-  → Linked (ended n h b) hs (device-steps n Live (steps.Take stages.Destroyed) (all-step (steps.GiveUp (row .list)) (without (device-at n Pending) xs)))
+    → Linked (ended n h b) hs (device-steps n Live (steps.Take stages.Destroyed) (all-step (steps.GiveUp (row .list)) (without (device-at n Pending) xs)))
 ended-as b hs xs l n h row e named =
     let v : DeviceCapability → Option ℕ = listing row in
     let listed : b .lists h ≡ v = ap (b .lists) (sym named) ∙ all-first (Sound (b .lists) (b .retired) hs) (device-at n Live) xs row (l .sound) e .listed (live-settled n row (first-passes (device-at n Live) xs row e)) in
@@ -124,17 +124,17 @@ ended-as b hs xs l n h row e named =
     let l₂ : Linked b₂ hs xs₂ = give-up b₁ hs xs₁ (drop-pending b hs xs l n) (row .list) in
     let free : (o : Object) → holds (b .lists h (o .kind)) (o .number) ≡ true → b₂ .owner o ≡ None = λ o t. cond-true (holds (v (o .kind)) (o .number)) _ _ (sym (ap (λ w. holds (w (o .kind)) (o .number)) listed) ∙ t) in
     subst (λ w. Linked (with-owner (λ o. cond (holds (w (o .kind)) (o .number)) None (b .owner o)) (with-lists (put (b .lists) h (λ _. None)) (with-live (put (b .live) n None) b₁))) hs (device-steps n Live (steps.Take stages.Destroyed) xs₂)) (sym listed)
-      (subst (Linked (with-lists (put (b .lists) h (λ _. None)) (with-live (put (b .live) n None) b₂)) hs) (sym (stepped-as n Live stages.Destroyed destroyed (λ x. refl) xs₂)) (destroy b₂ hs xs₂ l₂ n h is free))
+    (subst (Linked (with-lists (put (b .lists) h (λ _. None)) (with-live (put (b .live) n None) b₂)) hs) (sym (stepped-as n Live stages.Destroyed destroyed (λ x. refl) xs₂)) (destroy b₂ hs xs₂ l₂ n h is free))
 
 -- the end of a device that is live
 pub destroyed-live : (b : Book) (hs : ℕ) (xs : List DeviceRow) → Linked b hs xs → (n : ℕ) (row : DeviceRow) → first (device-at n Live) xs ≡ Some row
-  → Linked (at-some (b .live n) (with-setup (put (b .setup) n None) b) (λ h. ended n h b)) hs (device-steps n Live (steps.Take stages.Destroyed) (all-step (steps.GiveUp (row .list)) (without (device-at n Pending) xs)))
+    → Linked (at-some (b .live n) (with-setup (put (b .setup) n None) b) (λ h. ended n h b)) hs (device-steps n Live (steps.Take stages.Destroyed) (all-step (steps.GiveUp (row .list)) (without (device-at n Pending) xs)))
 destroyed-live b hs xs l n row e =
     subst (λ w. Linked (at-some w (with-setup (put (b .setup) n None) b) (λ h. ended n h b)) hs (device-steps n Live (steps.Take stages.Destroyed) (all-step (steps.GiveUp (row .list)) (without (device-at n Pending) xs))))
-      (sym (l .alive n ∙ ap (mapped handle-of) e)) (ended-as b hs xs l n (handle-of row) row e refl)
+    (sym (l .alive n ∙ ap (mapped handle-of) e)) (ended-as b hs xs l n (handle-of row) row e refl)
 
 -- where none is live, one that is being set up is gone
 pub destroyed-pending : (b : Book) (hs : ℕ) (xs : List DeviceRow) → Linked b hs xs → (n : ℕ) → first (device-at n Live) xs ≡ None
-  → Linked (at-some (b .live n) (with-setup (put (b .setup) n None) b) (λ h. ended n h b)) hs (without (device-at n Pending) xs)
+    → Linked (at-some (b .live n) (with-setup (put (b .setup) n None) b) (λ h. ended n h b)) hs (without (device-at n Pending) xs)
 destroyed-pending b hs xs l n e =
     subst (λ w. Linked (at-some w (with-setup (put (b .setup) n None) b) (λ h. ended n h b)) hs (without (device-at n Pending) xs)) (sym (l .alive n ∙ ap (mapped handle-of) e)) (drop-pending b hs xs l n)

@@ -126,14 +126,14 @@ module _ (hs hs′ : ℕ) (ss ss′ : List SeatRow) (ds ds′ : List DeviceRow) 
   still-apart (none s d e) no-seats no-devices h a = ⊎-elim (λ x. inl (nobody-still s h x)) (λ x. inr (nobody-still d h x)) a
   still-apart (to-seat s d e) no-seats no-devices h a =
       ⊎-elim
-        (λ t. inr (nobody-still d h (no-devices h (inr (let same = eqb-true (hs + 1) h t in omega arith)))))
-        (λ t. ⊎-elim (λ x. inl (nobody-given s h t x)) (λ x. inr (nobody-still d h x)) a)
-        (cases-bool (eqb (hs + 1) h))
+      (λ t. inr (nobody-still d h (no-devices h (inr (let same = eqb-true (hs + 1) h t in omega arith)))))
+      (λ t. ⊎-elim (λ x. inl (nobody-given s h t x)) (λ x. inr (nobody-still d h x)) a)
+      (cases-bool (eqb (hs + 1) h))
   still-apart (to-device s d e) no-seats no-devices h a =
       ⊎-elim
-        (λ t. inl (nobody-still s h (no-seats h (inr (let same = eqb-true (hs + 1) h t in omega arith)))))
-        (λ t. ⊎-elim (λ x. inl (nobody-still s h x)) (λ x. inr (nobody-given d h t x)) a)
-        (cases-bool (eqb (hs + 1) h))
+      (λ t. inl (nobody-still s h (no-seats h (inr (let same = eqb-true (hs + 1) h t in omega arith)))))
+      (λ t. ⊎-elim (λ x. inl (nobody-still s h x)) (λ x. inr (nobody-given d h t x)) a)
+      (cases-bool (eqb (hs + 1) h))
 
 -- Every call keeps the order.
 
@@ -143,9 +143,10 @@ order-start s = record { seats-given = λ _ _. tt; devices-given = λ _ _. tt; o
 
 -- a device's handle was given, and is no seat's
 device-handle : (m : Model) → Orderly m → (h : ℕ) → any (device-by-handle h) (m .devices) ≡ true → (h ≤ m .handles) × No-seat h (m .seats)
-device-handle m o h t =
-    (⊎-elim (λ high. absurd (somebody (device-by-handle h) (m .devices) t (o .devices-given h (inr high)))) (λ low. low) (cases-lt (m .handles) h),
-     ⊎-elim (λ x. x) (λ x. absurd (somebody (device-by-handle h) (m .devices) t x)) (o .apart h))
+device-handle m o h t = (
+  ⊎-elim (λ high. absurd (somebody (device-by-handle h) (m .devices) t (o .devices-given h (inr high)))) (λ low. low) (cases-lt (m .handles) h),
+  ⊎-elim (λ x. x) (λ x. absurd (somebody (device-by-handle h) (m .devices) t x)) (o .apart h),
+)
 
 -- what a call gives and stores keeps the order
 order-turn : (m m′ : Model) → Orderly m → Gives m blank m′ → Stored m (m′ .store) → Orderly m′
@@ -161,14 +162,14 @@ order-turn m m′ o g st =
       one-device = grown-lone device-by-handle (m .handles) (m′ .handles) (m .devices) (m′ .devices) devices (o .devices-given) (o .one-device);
       apart = λ h. still-apart (m .handles) (m′ .handles) (m .seats) (m′ .seats) (m .devices) (m′ .devices) g (o .seats-given) (o .devices-given) h (o .apart h);
       waits = pending-stored (Waits (m′ .handles) (m′ .seats)) st
-        (λ e d t. let whose = device-handle m o (handle-of e) t in
+          (λ e d t. let whose = device-handle m o (handle-of e) t in
           let at : handle-of (at-time 0 e) ≡ handle-of e = handle-at-time 0 e in
           record {
             device = device-at-time 0 e ∙ (d ∙ ap Some (sym at));
             given = subst (λ h. h ≤ m′ .handles) (sym at) (let low = whose .0 in omega arith);
-            no-seat = subst (λ h. No-seat h (m′ .seats)) (sym at) (kept (handle-of e) (whose .0) (whose .1))
+            no-seat = subst (λ h. No-seat h (m′ .seats)) (sym at) (kept (handle-of e) (whose .0) (whose .1));
           })
-        (all-weaker (Waits (m .handles) (m .seats)) _ (λ e w. record { device = w .device; given = (let low = w .given in omega arith); no-seat = kept (handle-of e) (w .given) (w .no-seat) }) (m .store .pending) (o .waits))
+          (all-weaker (Waits (m .handles) (m .seats)) _ (λ e w. record { device = w .device; given = (let low = w .given in omega arith); no-seat = kept (handle-of e) (w .given) (w .no-seat) }) (m .store .pending) (o .waits));
     }
 
 -- and so each call

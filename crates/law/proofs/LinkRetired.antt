@@ -68,7 +68,7 @@ unused-step b m l h u v c =
       no-seat = seats-kept (m .handles) (m′ .handles) (m .seats) (m′ .seats) (m .devices) (m′ .devices) g h (u .given-once) (u .no-seat);
       no-device = devices-kept (m .handles) (m′ .handles) (m .seats) (m′ .seats) (m .devices) (m′ .devices) g h (u .given-once) (u .no-device);
       none-pending = pending-stored P st (λ e _ t. timed 0 e (used-other h m u (handle-of e) (a-device t))) (u .none-pending);
-      none-queued = queued-stored P st timed (λ e w. used-other h m u (handle-of e) w) (u .none-pending) (u .none-queued)
+      none-queued = queued-stored P st timed (λ e w. used-other h m u (handle-of e) w) (u .none-pending) (u .none-queued);
     }
 
 -- Retiring.
@@ -78,9 +78,9 @@ none-kept : (p : EiEvent → Bool) (es : List EiEvent) → some (kept-by p es) �
 none-kept p [] t = tt
 none-kept p (e ∷ es) t =
     ⊎-elim
-      (λ y. absurd (both-ways (some (kept-by p (e ∷ es))) t (ap some (cond-true (p e) _ _ y))))
-      (λ n. (n, none-kept p es (sym (ap some (cond-false (p e) _ _ n)) ∙ t)))
-      (cases-bool (p e))
+    (λ y. absurd (both-ways (some (kept-by p (e ∷ es))) t (ap some (cond-true (p e) _ _ y))))
+    (λ n. (n, none-kept p es (sym (ap some (cond-false (p e) _ _ n)) ∙ t)))
+    (cases-bool (p e))
 
 -- what no queued event names
 unnamed : (h : ℕ) (c : Contents) → names h c ≡ false → Silent h (c .queued)
@@ -106,9 +106,9 @@ discarded-silent : (h : ℕ) (m : Model) → Orderly m → Silent h (discard h (
 unfolding discard others not-of of
 discarded-silent h m o =
     all-weaker (λ e. Waits (m .handles) (m .seats) e × (not-of h e ≡ true)) _
-      (λ e w. sym (ap (is-device h) (w .0 .device)) ∙ not-true (of h e) (w .1))
-      (kept-by (not-of h) (m .store .pending))
-      (all-both _ _ (kept-by (not-of h) (m .store .pending)) (all-kept-by (not-of h) (Waits (m .handles) (m .seats)) (m .store .pending) (o .waits)) (kept-by-passes (not-of h) (m .store .pending)))
+    (λ e w. sym (ap (is-device h) (w .0 .device)) ∙ not-true (of h e) (w .1))
+    (kept-by (not-of h) (m .store .pending))
+    (all-both _ _ (kept-by (not-of h) (m .store .pending)) (all-kept-by (not-of h) (Waits (m .handles) (m .seats)) (m .store .pending) (o .waits)) (kept-by-passes (not-of h) (m .store .pending)))
 
 -- what is queued stays
 discard-queued : (h : ℕ) (c : Contents) → discard h c .queued ≡ c .queued
@@ -128,33 +128,33 @@ some-leaves h (Some x) d f n s = s x refl
 retires-device : (m : Model) → Orderly m → (v : View) (h : ℕ) → Leaves h (handled v (retire-device h) m)
 retires-device m o v h =
     some-leaves h (first (device-by-handle h) (m .devices)) _ _ (λ a. absurd (omega arith))
-      (λ row e. cond-both (device-retirable row (m .store)) _ _ (Leaves h)
-        (λ t _. let out : No-device h (m .devices) → ⊥ = found (device-by-handle h) (m .devices) row e in
-          record {
-            positive = λ z. out (o .devices-given h (inl z));
-            given-once = ⊎-elim (λ high. absurd (out (o .devices-given h (inr high)))) (λ low. low) (cases-lt (m .handles) h);
-            no-seat = ⊎-elim (λ x. x) (λ x. absurd (out x)) (o .apart h);
-            no-device = without-itself (device-by-handle h) (m .devices) (o .one-device h);
-            none-pending = discarded-silent h m o;
-            none-queued = subst (Silent h) (sym (discard-queued h (m .store))) (subst (λ k. Silent k (m .store .queued)) (has-handle _ (row .head .handle) h (first-passes (device-by-handle h) (m .devices) row e)) (unnamed (row .head .handle) (m .store) (last-of (owns-any (row .list .entries)) _ (both-of (same-standing (row .head .standing) Detached) _ t .1))))
-          })
-        (λ _ a. absurd (omega arith)))
+    (λ row e. cond-both (device-retirable row (m .store)) _ _ (Leaves h)
+    (λ t _. let out : No-device h (m .devices) → ⊥ = found (device-by-handle h) (m .devices) row e in
+    record {
+      positive = λ z. out (o .devices-given h (inl z));
+      given-once = ⊎-elim (λ high. absurd (out (o .devices-given h (inr high)))) (λ low. low) (cases-lt (m .handles) h);
+      no-seat = ⊎-elim (λ x. x) (λ x. absurd (out x)) (o .apart h);
+      no-device = without-itself (device-by-handle h) (m .devices) (o .one-device h);
+      none-pending = discarded-silent h m o;
+      none-queued = subst (Silent h) (sym (discard-queued h (m .store))) (subst (λ k. Silent k (m .store .queued)) (has-handle _ (row .head .handle) h (first-passes (device-by-handle h) (m .devices) row e)) (unnamed (row .head .handle) (m .store) (last-of (owns-any (row .list .entries)) _ (both-of (same-standing (row .head .standing) Detached) _ t .1))));
+    })
+    (λ _ a. absurd (omega arith)))
 
 -- retiring a seat
 retires-seat : (m : Model) → Orderly m → (v : View) (h : ℕ) → Leaves h (handled v (retire-seat h) m)
 retires-seat m o v h =
     some-leaves h (first (seat-by-handle h) (m .seats)) _ _ (λ a. absurd (omega arith))
-      (λ row e. cond-both (seat-retirable row m) _ _ (Leaves h)
-        (λ t _. let out : No-seat h (m .seats) → ⊥ = found (seat-by-handle h) (m .seats) row e in
-          record {
-            positive = λ z. out (o .seats-given h (inl z));
-            given-once = ⊎-elim (λ high. absurd (out (o .seats-given h (inr high)))) (λ low. low) (cases-lt (m .handles) h);
-            no-seat = without-itself (seat-by-handle h) (m .seats) (o .one-seat h);
-            no-device = ⊎-elim (λ x. absurd (out x)) (λ x. x) (o .apart h);
-            none-pending = all-weaker (Waits (m .handles) (m .seats)) _ (λ w s. ne-eqb (handle-of w) h (λ z. out (subst (λ k. No-seat k (m .seats)) z (s .no-seat)))) (m .store .pending) (o .waits);
-            none-queued = subst (λ k. Silent k (m .store .queued)) (has-handle _ (row .head .handle) h (first-passes (seat-by-handle h) (m .seats) row e)) (unnamed (row .head .handle) (m .store) (last-of (any (λ device. eqb (device .seat) (row .head .handle)) (m .devices)) _ (both-of (same-standing (row .head .standing) Detached) _ t .1)))
-          })
-        (λ _ a. absurd (omega arith)))
+    (λ row e. cond-both (seat-retirable row m) _ _ (Leaves h)
+    (λ t _. let out : No-seat h (m .seats) → ⊥ = found (seat-by-handle h) (m .seats) row e in
+    record {
+      positive = λ z. out (o .seats-given h (inl z));
+      given-once = ⊎-elim (λ high. absurd (out (o .seats-given h (inr high)))) (λ low. low) (cases-lt (m .handles) h);
+      no-seat = without-itself (seat-by-handle h) (m .seats) (o .one-seat h);
+      no-device = ⊎-elim (λ x. absurd (out x)) (λ x. x) (o .apart h);
+      none-pending = all-weaker (Waits (m .handles) (m .seats)) _ (λ w s. ne-eqb (handle-of w) h (λ z. out (subst (λ k. No-seat k (m .seats)) z (s .no-seat)))) (m .store .pending) (o .waits);
+      none-queued = subst (λ k. Silent k (m .store .queued)) (has-handle _ (row .head .handle) h (first-passes (seat-by-handle h) (m .seats) row e)) (unnamed (row .head .handle) (m .store) (last-of (any (λ device. eqb (device .seat) (row .head .handle)) (m .devices)) _ (both-of (same-standing (row .head .standing) Detached) _ t .1)));
+    })
+    (λ _ a. absurd (omega arith)))
 
 -- Runs.
 

@@ -75,18 +75,18 @@ module _ {X : Type 0} where
   first-passes p [] r e = absurd (none-some e)
   first-passes p (x ∷ xs) r e =
       ⊎-elim
-        (λ t. subst (λ y. p y ≡ true) (some-same (sym (cond-true (p x) _ _ t) ∙ e)) t)
-        (λ t. first-passes p xs r (sym (cond-false (p x) _ _ t) ∙ e))
-        (cases-bool (p x))
+      (λ t. subst (λ y. p y ≡ true) (some-same (sym (cond-true (p x) _ _ t) ∙ e)) t)
+      (λ t. first-passes p xs r (sym (cond-false (p x) _ _ t) ∙ e))
+      (cases-bool (p x))
 
   -- what holds of all holds of the first
   pub all-first : (P : X → Type 0) (p : X → Bool) (xs : List X) (r : X) → All P xs → first p xs ≡ Some r → P r
   all-first P p [] r a e = absurd (none-some e)
   all-first P p (x ∷ xs) r a e =
       ⊎-elim
-        (λ t. subst P (some-same (sym (cond-true (p x) _ _ t) ∙ e)) (a .0))
-        (λ t. all-first P p xs r (a .1) (sym (cond-false (p x) _ _ t) ∙ e))
-        (cases-bool (p x))
+      (λ t. subst P (some-same (sym (cond-true (p x) _ _ t) ∙ e)) (a .0))
+      (λ t. all-first P p xs r (a .1) (sym (cond-false (p x) _ _ t) ∙ e))
+      (cases-bool (p x))
 
   -- there is no first where none passes
   pub nobody-first : (p : X → Bool) (xs : List X) → Nobody p xs → first p xs ≡ None
@@ -98,18 +98,18 @@ module _ {X : Type 0} where
   first-nobody p [] e = tt
   first-nobody p (x ∷ xs) e =
       ⊎-elim
-        (λ t. absurd (none-some (sym e ∙ cond-true (p x) _ _ t)))
-        (λ t. (t, first-nobody p xs (sym (cond-false (p x) _ _ t) ∙ e)))
-        (cases-bool (p x))
+      (λ t. absurd (none-some (sym e ∙ cond-true (p x) _ _ t)))
+      (λ t. (t, first-nobody p xs (sym (cond-false (p x) _ _ t) ∙ e)))
+      (cases-bool (p x))
 
   -- a change counts only where it is made
   pub changed-as : (p : X → Bool) (f g : X → X) → ((x : X) → p x ≡ true → f x ≡ g x) → (xs : List X) → changed p f xs ≡ changed p g xs
   changed-as p f g same [] = refl
   changed-as p f g same (x ∷ xs) =
       ⊎-elim
-        (λ t. cond-true (p x) _ _ t ∙ (ap (λ y. y ∷ xs) (same x t) ∙ sym (cond-true (p x) _ _ t)))
-        (λ t. cond-false (p x) _ _ t ∙ (ap (λ l. x ∷ l) (changed-as p f g same xs) ∙ sym (cond-false (p x) _ _ t)))
-        (cases-bool (p x))
+      (λ t. cond-true (p x) _ _ t ∙ (ap (λ y. y ∷ xs) (same x t) ∙ sym (cond-true (p x) _ _ t)))
+      (λ t. cond-false (p x) _ _ t ∙ (ap (λ l. x ∷ l) (changed-as p f g same xs) ∙ sym (cond-false (p x) _ _ t)))
+      (cases-bool (p x))
 
   -- Without one.
 
@@ -124,9 +124,9 @@ module _ {X : Type 0} where
   first-without p q [] c = refl
   first-without p q (x ∷ xs) c =
       ⊎-elim
-        (λ t. ap (first p) (cond-true (q x) _ _ t) ∙ sym (cond-false (p x) _ _ (c x (cond-true (q x) _ _ t))))
-        (λ t. ap (first p) (cond-false (q x) _ _ t) ∙ ap (cond (p x) (Some x)) (first-without p q xs (λ r e. c r (cond-false (q x) _ _ t ∙ e))))
-        (cases-bool (q x))
+      (λ t. ap (first p) (cond-true (q x) _ _ t) ∙ sym (cond-false (p x) _ _ (c x (cond-true (q x) _ _ t))))
+      (λ t. ap (first p) (cond-false (q x) _ _ t) ∙ ap (cond (p x) (Some x)) (first-without p q xs (λ r e. c r (cond-false (q x) _ _ t ∙ e))))
+      (cases-bool (q x))
 
   -- without the one that passes none does
   pub without-itself : (p : X → Bool) (xs : List X) → Lone p xs → Nobody p (without p xs)
@@ -138,12 +138,12 @@ module _ {X : Type 0} where
   others-fail p q [] r e t a = tt
   others-fail p q (x ∷ xs) r e t a =
       cond-both (q x) _ _ (Nobody p)
-        (λ u. a .0 (subst (λ y. p y ≡ true) (some-same (sym e ∙ cond-true (q x) _ _ u)) t))
-        (λ u. let e′ : first q xs ≡ Some r = sym (cond-false (q x) _ _ u) ∙ e in
-          ⊎-elim
-            (λ s. absurd (both-ways (p r) (all-first (λ y. p y ≡ false) q xs r (a .0 s) e′) t))
-            (λ s. (s, others-fail p q xs r e′ t (a .1)))
-            (cases-bool (p x)))
+      (λ u. a .0 (subst (λ y. p y ≡ true) (some-same (sym e ∙ cond-true (q x) _ _ u)) t))
+      (λ u. let e′ : first q xs ≡ Some r = sym (cond-false (q x) _ _ u) ∙ e in
+      ⊎-elim
+      (λ s. absurd (both-ways (p r) (all-first (λ y. p y ≡ false) q xs r (a .0 s) e′) t))
+      (λ s. (s, others-fail p q xs r e′ t (a .1)))
+      (cases-bool (p x)))
 
   -- The first that passes is changed.
 
@@ -152,27 +152,27 @@ module _ {X : Type 0} where
   all-changed P q f [] r e c a = tt
   all-changed P q f (x ∷ xs) r e c a =
       cond-both (q x) _ _ (All P)
-        (λ t. (subst (λ y. P (f y)) (some-same (sym e ∙ cond-true (q x) _ _ t)) c, subst (All P) (cond-true (q x) _ _ t) a))
-        (λ t. let b : All P (x ∷ without q xs) = subst (All P) (cond-false (q x) _ _ t) a in
-          (b .0, all-changed P q f xs r (sym (cond-false (q x) _ _ t) ∙ e) c (b .1)))
+      (λ t. (subst (λ y. P (f y)) (some-same (sym e ∙ cond-true (q x) _ _ t)) c, subst (All P) (cond-true (q x) _ _ t) a))
+      (λ t. let b : All P (x ∷ without q xs) = subst (All P) (cond-false (q x) _ _ t) a in
+      (b .0, all-changed P q f xs r (sym (cond-false (q x) _ _ t) ∙ e) c (b .1)))
 
   -- a row that comes to pass, where none did, is the first and the only one
   pub first-changed-in : (p q : X → Bool) (f : X → X) (xs : List X) (r : X) → first q xs ≡ Some r → Nobody p xs → p (f r) ≡ true → first p (changed q f xs) ≡ Some (f r)
   first-changed-in p q f [] r e a t = absurd (none-some e)
   first-changed-in p q f (x ∷ xs) r e a t =
       ⊎-elim
-        (λ u. let same : x ≡ r = some-same (sym (cond-true (q x) _ _ u) ∙ e) in
-          ap (first p) (cond-true (q x) _ _ u) ∙ (cond-true (p (f x)) _ _ (ap (λ y. p (f y)) same ∙ t) ∙ ap (λ y. Some (f y)) same))
-        (λ u. ap (first p) (cond-false (q x) _ _ u) ∙ (cond-false (p x) _ _ (a .0) ∙ first-changed-in p q f xs r (sym (cond-false (q x) _ _ u) ∙ e) (a .1) t))
-        (cases-bool (q x))
+      (λ u. let same : x ≡ r = some-same (sym (cond-true (q x) _ _ u) ∙ e) in
+      ap (first p) (cond-true (q x) _ _ u) ∙ (cond-true (p (f x)) _ _ (ap (λ y. p (f y)) same ∙ t) ∙ ap (λ y. Some (f y)) same))
+      (λ u. ap (first p) (cond-false (q x) _ _ u) ∙ (cond-false (p x) _ _ (a .0) ∙ first-changed-in p q f xs r (sym (cond-false (q x) _ _ u) ∙ e) (a .1) t))
+      (cases-bool (q x))
 
   -- it is the only one
   pub lone-changed-in : (p q : X → Bool) (f : X → X) (xs : List X) → Nobody p xs → Lone p (changed q f xs)
   lone-changed-in p q f [] a = tt
   lone-changed-in p q f (x ∷ xs) a =
       cond-both (q x) _ _ (Lone p)
-        (λ t. ((λ _. a .1), nobody-lone xs (a .1)))
-        (λ t. ((λ u. absurd (both-ways (p x) (a .0) u)), lone-changed-in p q f xs (a .1)))
+      (λ t. ((λ _. a .1), nobody-lone xs (a .1)))
+      (λ t. ((λ u. absurd (both-ways (p x) (a .0) u)), lone-changed-in p q f xs (a .1)))
     where
       nobody-lone : (ys : List X) → Nobody p ys → Lone p ys
       nobody-lone [] b = tt
@@ -190,8 +190,8 @@ module _ {X : Type 0} where
   each-changed R q f same [] c = tt
   each-changed R q f same (x ∷ xs) c =
       cond-both (q x) _ _ (Each R (x ∷ xs))
-        (λ t. (c x (cond-true (q x) _ _ t), each-same R same xs))
-        (λ t. (same x, each-changed R q f same xs (λ r e. c r (cond-false (q x) _ _ t ∙ e))))
+      (λ t. (c x (cond-true (q x) _ _ t), each-same R same xs))
+      (λ t. (same x, each-changed R q f same xs (λ r e. c r (cond-false (q x) _ _ t ∙ e))))
 
   -- every row is changed
   pub each-map : (R : X → X → Type 0) (f : X → X) (xs : List X) → All (λ x. R x (f x)) xs → Each R xs (map f xs)
@@ -221,10 +221,11 @@ module _ {X : Type 0} where
   each-lone p [] [] e a = tt
   each-lone p [] (y ∷ ys) e a = absurd e
   each-lone p (x ∷ xs) [] e a = absurd e
-  each-lone p (x ∷ xs) (y ∷ ys) e a =
-      ((λ t. each-all (λ z. p z ≡ false) (λ z. p z ≡ false) xs ys (e .1)
+  each-lone p (x ∷ xs) (y ∷ ys) e a = (
+    (λ t. each-all (λ z. p z ≡ false) (λ z. p z ≡ false) xs ys (e .1)
         (⊎-elim (λ u. a .0 u) (λ u. absurd (both-ways (p y) (e .0 u) t)) (cases-bool (p x)))),
-       each-lone p xs ys (e .1) (a .1))
+    each-lone p xs ys (e .1) (a .1),
+  )
 
   -- the same rows pass, and show the same
   abbrev pub Alike : {V : Type 0} → (X → Bool) → (X → V) → X → X → Type 0
@@ -237,18 +238,18 @@ module _ {X : Type 0} where
   each-first p v (x ∷ xs) [] e = absurd e
   each-first p v (x ∷ xs) (y ∷ ys) e =
       ⊎-elim
-        (λ t. ap (mapped v) (cond-true (p y) _ _ (e .0 .0 ∙ t)) ∙ (ap Some (e .0 .1 t) ∙ sym (ap (mapped v) (cond-true (p x) _ _ t))))
-        (λ t. ap (mapped v) (cond-false (p y) _ _ (e .0 .0 ∙ t)) ∙ (each-first p v xs ys (e .1) ∙ sym (ap (mapped v) (cond-false (p x) _ _ t))))
-        (cases-bool (p x))
+      (λ t. ap (mapped v) (cond-true (p y) _ _ (e .0 .0 ∙ t)) ∙ (ap Some (e .0 .1 t) ∙ sym (ap (mapped v) (cond-true (p x) _ _ t))))
+      (λ t. ap (mapped v) (cond-false (p y) _ _ (e .0 .0 ∙ t)) ∙ (each-first p v xs ys (e .1) ∙ sym (ap (mapped v) (cond-false (p x) _ _ t))))
+      (cases-bool (p x))
 
   -- a row that stays what it was found by is found again
   pub first-changed-itself : (q : X → Bool) (f : X → X) → ((x : X) → q x ≡ true → q (f x) ≡ true) → (xs : List X) → first q (changed q f xs) ≡ mapped f (first q xs)
   first-changed-itself q f stays [] = refl
   first-changed-itself q f stays (x ∷ xs) =
       ⊎-elim
-        (λ t. ap (first q) (cond-true (q x) _ _ t) ∙ (cond-true (q (f x)) _ _ (stays x t) ∙ sym (ap (mapped f) (cond-true (q x) _ _ t))))
-        (λ t. ap (first q) (cond-false (q x) _ _ t) ∙ (cond-false (q x) _ _ t ∙ (first-changed-itself q f stays xs ∙ sym (ap (mapped f) (cond-false (q x) _ _ t)))))
-        (cases-bool (q x))
+      (λ t. ap (first q) (cond-true (q x) _ _ t) ∙ (cond-true (q (f x)) _ _ (stays x t) ∙ sym (ap (mapped f) (cond-true (q x) _ _ t))))
+      (λ t. ap (first q) (cond-false (q x) _ _ t) ∙ (cond-false (q x) _ _ t ∙ (first-changed-itself q f stays xs ∙ sym (ap (mapped f) (cond-false (q x) _ _ t)))))
+      (cases-bool (q x))
 
   -- where the only one that passes ceases to, none does
   pub changed-out : (p : X → Bool) (f : X → X) → ((x : X) → p x ≡ true → p (f x) ≡ false) → (xs : List X) → Lone p xs → Nobody p (changed p f xs)
@@ -282,7 +283,8 @@ module _ {X : Type 0} where
   -- at most one passes, the new row among them
   pub lone-push : (p : X → Bool) (xs : List X) (y : X) → (p y ≡ true → Nobody p xs) → Lone p xs → Lone p (xs ++ (y ∷ []))
   lone-push p [] y n a = ((λ _. tt), tt)
-  lone-push p (x ∷ xs) y n a =
-      ((λ t. all-push (λ z. p z ≡ false) xs y (a .0 t)
+  lone-push p (x ∷ xs) y n a = (
+    (λ t. all-push (λ z. p z ≡ false) xs y (a .0 t)
         (⊎-elim (λ u. absurd (both-ways (p x) (n u .0) t)) (λ u. u) (cases-bool (p y)))),
-       lone-push p xs y (λ u. n u .1) (a .1))
+    lone-push p xs y (λ u. n u .1) (a .1),
+  )

@@ -28,8 +28,8 @@ drop-pending b hs xs l n =
     record {
       counted = l .counted;
       set-up = λ k. cond-both (eqb k n) _ _ (λ w. w ≡ mapped listing (first (device-at k Pending) (without q xs)))
-        (λ t. subst (λ j. None ≡ mapped listing (first (device-at j Pending) (without q xs))) (sym (eqb-true k n t)) (sym (ap (mapped listing) (nobody-first q (without q xs) (without-itself q xs (l .one-pending n))))))
-        (λ t. l .set-up k ∙ sym (ap (mapped listing) (first-without (device-at k Pending) q xs (λ x e. at-other-number k n Pending Pending x (first-passes q xs x e) t))));
+          (λ t. subst (λ j. None ≡ mapped listing (first (device-at j Pending) (without q xs))) (sym (eqb-true k n t)) (sym (ap (mapped listing) (nobody-first q (without q xs) (without-itself q xs (l .one-pending n))))))
+          (λ t. l .set-up k ∙ sym (ap (mapped listing) (first-without (device-at k Pending) q xs (λ x e. at-other-number k n Pending Pending x (first-passes q xs x e) t))));
       alive = λ k. l .alive k ∙ sym (ap (mapped handle-of) (first-without (device-at k Live) q xs (λ x e. at-other k Live Pending x (at-standing-is n Pending x (first-passes q xs x e)) refl)));
       owned = λ o. l .owned o ∙ sym (ap (mapped handle-of) (first-without (owns-it o) q xs (λ x e. all-first (Sound (b .lists) (b .retired) hs) q xs x (l .sound) e .owns-nothing (pending-is n x (first-passes q xs x e)) o)));
       one-pending = λ k. lone-without (device-at k Pending) q xs (l .one-pending k);
@@ -37,7 +37,7 @@ drop-pending b hs xs l n =
       one-handle = λ h. lone-without (device-by-handle h) q xs (l .one-handle h);
       one-owner = λ o. lone-without (owns-it o) q xs (l .one-owner o);
       sound = all-without (Sound (b .lists) (b .retired) hs) q xs (l .sound);
-      was-given = l .was-given
+      was-given = l .was-given;
     }
 
 -- where none of the number is being set up, one begins to be
@@ -49,8 +49,8 @@ add-pending b hs xs l n seat e =
     record {
       counted = l .counted;
       set-up = λ k. cond-both (eqb k n) _ _ (λ w. w ≡ mapped listing (first (device-at k Pending) (xs ++ (y ∷ []))))
-        (λ t. sym (ap (mapped listing) (first-push-in (device-at k Pending) xs y (none k t) (found k ∙ t)) ∙ ap Some objects-none))
-        (λ t. l .set-up k ∙ sym (ap (mapped listing) (first-push-out (device-at k Pending) xs y (found k ∙ t))));
+          (λ t. sym (ap (mapped listing) (first-push-in (device-at k Pending) xs y (none k t) (found k ∙ t)) ∙ ap Some objects-none))
+          (λ t. l .set-up k ∙ sym (ap (mapped listing) (first-push-out (device-at k Pending) xs y (found k ∙ t))));
       alive = λ k. l .alive k ∙ sym (ap (mapped handle-of) (first-push-out (device-at k Live) xs y (at-other k Live Pending y refl refl)));
       owned = λ o. l .owned o ∙ sym (ap (mapped handle-of) (first-push-out (owns-it o) xs y (owns-none o)));
       one-pending = λ k. lone-push (device-at k Pending) xs y (λ t. none k (sym (found k) ∙ t)) (l .one-pending k);
@@ -58,7 +58,7 @@ add-pending b hs xs l n seat e =
       one-handle = λ h. lone-push (device-by-handle h) xs y (λ t. absurd (both-ways false refl t)) (l .one-handle h);
       one-owner = λ o. lone-push (owns-it o) xs y (λ t. absurd (both-ways (owns-it o y) (owns-none o) t)) (l .one-owner o);
       sound = all-push (Sound (b .lists) (b .retired) hs) xs y (l .sound) (record { owns-nothing = λ _ o. owns-none o; given = λ t. absurd (both-ways true t refl); listed = λ t. absurd (both-ways true t refl); current = λ t. absurd (both-ways true t refl) });
-      was-given = l .was-given
+      was-given = l .was-given;
     }
 
 -- one handle more is given, and not to a device
@@ -74,5 +74,5 @@ one-more-handle b hs xs l =
       one-handle = l .one-handle;
       one-owner = l .one-owner;
       sound = all-weaker (Sound (b .lists) (b .retired) hs) (Sound (b .lists) (b .retired) (hs + 1)) (λ x s. record { owns-nothing = s .owns-nothing; given = λ p. omega (arith, s .given p); listed = s .listed; current = s .current }) xs (l .sound);
-      was-given = λ h t. omega (arith, l .was-given h t)
+      was-given = λ h t. omega (arith, l .was-given h t);
     }

@@ -91,8 +91,8 @@ step b m l v (device-interface n None) = search shapes
 step b m l v (device-interface n (Some o)) = let told = equips b (m .handles) (m .devices) l n o in search shapes
 step b m l v (device-done n) =
     some-kept Link b (device-done n) (first (device-at n Pending) (m .devices)) _ _ (λ _. record { kept = l })
-      (λ row e. some-kept Link b (device-done n) (row .description .«device_type») _ _ (λ _. record { kept = drop-pending b (m .handles) (m .devices) l n })
-        (λ _ _. done-full Link b m l n (no-places-for (next-handle m) (m .store)) (no-handle m) _ (record { kept = done-live b (m .handles) (m .devices) l n row e })))
+    (λ row e. some-kept Link b (device-done n) (row .description .«device_type») _ _ (λ _. record { kept = drop-pending b (m .handles) (m .devices) l n })
+    (λ _ _. done-full Link b m l n (no-places-for (next-handle m) (m .store)) (no-handle m) _ (record { kept = done-live b (m .handles) (m .devices) l n row e })))
 step b m l v (device-speech n s x) = search shapes
 step b m l v (device-frame n s t) = search shapes
 step b m l v (device-destroyed n s) =
@@ -109,9 +109,9 @@ step b m l v (bind h bits) = search shapes
 step b m l v (retire-seat h) = search shapes
 step b m l v (retire-device h) =
     some-kept Link b (retire-device h) (first (device-by-handle h) (m .devices)) _ _ (λ _. record { kept = l })
-      (λ row e. cond-kept Link b (retire-device h) (device-retirable row (m .store)) _ _
-        (λ t. let may = retirable row (m .store) t in record { kept = retire b (m .handles) (m .devices) l h row e (may .0) (may .1) })
-        (λ _. record { kept = l }))
+    (λ row e. cond-kept Link b (retire-device h) (device-retirable row (m .store)) _ _
+    (λ t. let may = retirable row (m .store) t in record { kept = retire b (m .handles) (m .devices) l h row e (may .0) (may .1) })
+    (λ _. record { kept = l }))
 
 -- each call keeps the link
 pub link-step : (b : Book) (m : Model) → Link b m → (v : View) (c : Call) → Link (booked b c (answer-of (handled v c m .answer))) (handled v c m .after)

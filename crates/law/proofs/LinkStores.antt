@@ -78,12 +78,12 @@ module _ (P : EiEvent → Type 0) where
     queued-stored (queues e u) timed new a b = cond-both (fits 1 (m .store)) _ _ (λ (c : Contents). All P (c .queued)) (λ _. all-push P (m .store .queued) e b (new e u)) (λ _. b)
     queued-stored (frames f e u w) timed new a b =
         cond-both (can-queue-framed f (m .store)) _ _ (λ (c : Contents). All P (c .queued))
-          (λ _. all-push P (m .store .queued ++ batch f (pending-for (f .device) (m .store))) e (all-append P (m .store .queued) (batch f (pending-for (f .device) (m .store))) b (all-batch timed f (new (frame f) u) _ (all-kept-by (of (f .device)) P (m .store .pending) a))) (new e w))
-          (λ _. b)
+        (λ _. all-push P (m .store .queued ++ batch f (pending-for (f .device) (m .store))) e (all-append P (m .store .queued) (batch f (pending-for (f .device) (m .store))) b (all-batch timed f (new (frame f) u) _ (all-kept-by (of (f .device)) P (m .store .pending) a))) (new e w))
+        (λ _. b)
     queued-stored (commits f u) timed new a b =
         cond-both (can-commit f (m .store)) _ _ (λ (c : Contents). All P (c .queued))
-          (λ _. all-append P (m .store .queued) (batch f (pending-for (f .device) (m .store))) b (all-batch timed f (new (frame f) u) _ (all-kept-by (of (f .device)) P (m .store .pending) a)))
-          (λ _. b)
+        (λ _. all-append P (m .store .queued) (batch f (pending-for (f .device) (m .store))) b (all-batch timed f (new (frame f) u) _ (all-kept-by (of (f .device)) P (m .store .pending) a)))
+        (λ _. b)
     queued-stored (holds e d u) timed new a b = cond-both (can-hold (m .store)) _ _ (λ (c : Contents). All P (c .queued)) (λ _. b) (λ _. b)
     queued-stored hands-out timed new a b = all-drop P 1 (m .store .queued) b
     queued-stored (discards h) timed new a b = b
@@ -154,7 +154,7 @@ live-device m n row e = a-device (any-from (device-at n Live) (device-by-handle 
 live-seat : (m : Model) (n : ℕ) (row : SeatRow) → first (seat-at n Live) (m .seats) ≡ Some row → Used m (row .head .handle)
 live-seat m n row e =
     a-seat (any-from (seat-at n Live) (seat-by-handle (row .head .handle)) (m .seats) row e
-      (ap (λ z. cond (same-standing z Pending) false (eqb (row .head .handle) (row .head .handle))) (at-standing (λ x. x .head .number) (λ x. x .head .standing) n Live row (first-passes (seat-at n Live) (m .seats) row e)) ∙ eq-eqb (row .head .handle) (row .head .handle) refl))
+    (ap (λ z. cond (same-standing z Pending) false (eqb (row .head .handle) (row .head .handle))) (at-standing (λ x. x .head .number) (λ x. x .head .standing) n Live row (first-passes (seat-at n Live) (m .seats) row e)) ∙ eq-eqb (row .head .handle) (row .head .handle) refl))
 
 -- an owner has its handle
 owner-device : (b : Book) (m : Model) → Link b m → (o : Object) (h : ℕ) → owner-of o m ≡ Some h → any (device-by-handle h) (m .devices) ≡ true
@@ -210,8 +210,8 @@ storing-step b m l q v (device-interface n None) = search shapes
 storing-step b m l q v (device-interface n (Some o)) = search shapes
 storing-step b m l q v (device-done n) =
     some-kept (Stores m) b (device-done n) (first (device-at n Pending) (m .devices)) _ _ (λ _. record { kept = q })
-      (λ row e. some-kept (Stores m) b (device-done n) (type-of row) _ _ (λ _. record { kept = q })
-        (λ _ _. done-full (Stores m) b m q n (no-places-for (next-handle m) (m .store)) (no-handle m) _ (record { kept = framed-for m (next-handle m) (the-next refl) _ refl _ _ })))
+    (λ row e. some-kept (Stores m) b (device-done n) (type-of row) _ _ (λ _. record { kept = q })
+    (λ _ _. done-full (Stores m) b m q n (no-places-for (next-handle m) (m .store)) (no-handle m) _ (record { kept = framed-for m (next-handle m) (the-next refl) _ refl _ _ })))
 storing-step b m l q v (device-speech n s x) = let live = λ (row : DeviceRow) (e : first (device-at n Live) (m .devices) ≡ Some row). framed-for m (row .head .handle) (live-device m n row e) (spoken x s (row .head .handle)) (spoken-as x s (row .head .handle)) in search shapes
 storing-step b m l q v (device-frame n s t) = let live = λ (row : DeviceRow) (e : first (device-at n Live) (m .devices) ≡ Some row). committed-for m (row .head .handle) (live-device m n row e) in search shapes
 storing-step b m l q v (device-destroyed n s) = let live = λ (row : DeviceRow) (e : first (device-at n Live) (m .devices) ≡ Some row). framed-for m (row .head .handle) (live-device m n row e) (DeviceRemoved (record { device = row .head .handle })) refl in search shapes

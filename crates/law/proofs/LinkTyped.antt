@@ -52,7 +52,7 @@ arrived-typed n seat xs a = all-push Typed (without (device-at n Pending) xs) (n
 
 -- the device that goes live has the type that was looked at
 done-typed : (n h : ℕ) (row : DeviceRow) (xs : List DeviceRow) → All Typed xs → first (device-at n Pending) xs ≡ Some row → isSome (type-of row) ≡ true
-  → All Typed (device-steps n Pending (steps.Take (stages.Done h)) (device-steps n Live (steps.Take (stages.Done h)) (all-step (steps.GiveUp (row .list)) xs)))
+    → All Typed (device-steps n Pending (steps.Take (stages.Done h)) (device-steps n Live (steps.Take (stages.Done h)) (all-step (steps.GiveUp (row .list)) xs)))
 done-typed n h row xs a e typed =
     let q : DeviceRow → Bool = device-at n Pending in
     let live : DeviceRow → Bool = device-at n Live in
@@ -62,14 +62,14 @@ done-typed n h row xs a e typed =
     let back : xs₂ ≡ device-steps n Live (steps.Take (stages.Done h)) xs₁ = sym (stepped-as n Live (stages.Done h) superseded (λ x. refl) xs₁) in
     let is : (x : DeviceRow) → first q xs₂ ≡ Some x → isSome (type-of x) ≡ true = λ x w. ap isSome (some-same (sym (ap (mapped type-of) w) ∙ (ap (λ zs. mapped type-of (first q zs)) back ∙ pending-after n h row xs e))) ∙ typed in
     subst (λ zs. All Typed (device-steps n Pending (steps.Take (stages.Done h)) zs)) back
-      (subst (All Typed) (sym (stepped-as n Pending (stages.Done h) (gone-live h) (λ x. refl) xs₂)) (all-changed-by Typed q (gone-live h) xs₂ (λ x w _ _. is x w) a₂))
+    (subst (All Typed) (sym (stepped-as n Pending (stages.Done h) (gone-live h) (λ x. refl) xs₂)) (all-changed-by Typed q (gone-live h) xs₂ (λ x w _ _. is x w) a₂))
 
 -- a destroyed device keeps its type
 gone-typed : (n : ℕ) (row : DeviceRow) (xs : List DeviceRow) → All Typed xs → All Typed (device-steps n Live (steps.Take stages.Destroyed) (all-step (steps.GiveUp (row .list)) (without (device-at n Pending) xs)))
 gone-typed n row xs a =
     let ys : List DeviceRow = all-step (steps.GiveUp (row .list)) (without (device-at n Pending) xs) in
     subst (All Typed) (sym (stepped-as n Live stages.Destroyed destroyed (λ x. refl) ys))
-      (all-changed-by Typed (device-at n Live) destroyed ys (λ x w t _. t (live-settled n x (first-passes (device-at n Live) ys x w))) (all-map Typed (less (row .list)) (without (device-at n Pending) xs) (all-without Typed (device-at n Pending) xs a)))
+    (all-changed-by Typed (device-at n Live) destroyed ys (λ x w t _. t (live-settled n x (first-passes (device-at n Live) ys x w))) (all-map Typed (less (row .list)) (without (device-at n Pending) xs) (all-without Typed (device-at n Pending) xs a)))
 
 -- all rows, whatever the book says
 abbrev All-typed : Book → Model → Type 0
@@ -97,8 +97,8 @@ typed-step b m a v (device-interface n None) = search shapes
 typed-step b m a v (device-interface n (Some o)) = let told = equipped-typed n o (m .devices) a in search shapes
 typed-step b m a v (device-done n) =
     some-kept All-typed b (device-done n) (first (device-at n Pending) (m .devices)) _ _ (λ _. record { kept = a })
-      (λ row e. some-kept All-typed b (device-done n) (type-of row) _ _ (λ _. record { kept = all-without Typed (device-at n Pending) (m .devices) a })
-        (λ t is. done-full All-typed b m a n (no-places-for (next-handle m) (m .store)) (no-handle m) _ (record { kept = done-typed n (next-handle m) row (m .devices) a e (ap isSome is) })))
+    (λ row e. some-kept All-typed b (device-done n) (type-of row) _ _ (λ _. record { kept = all-without Typed (device-at n Pending) (m .devices) a })
+    (λ t is. done-full All-typed b m a n (no-places-for (next-handle m) (m .store)) (no-handle m) _ (record { kept = done-typed n (next-handle m) row (m .devices) a e (ap isSome is) })))
 typed-step b m a v (device-speech n s x) = search shapes
 typed-step b m a v (device-frame n s t) = search shapes
 typed-step b m a v (device-destroyed n s) =

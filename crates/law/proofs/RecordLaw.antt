@@ -18,6 +18,6 @@ record-law = record-law-from (λ es m r. run-known r)
 pub goes-on : (v : View) (c : Call) (m : Model) (answer : ℕ) (given : Option EiEvent) (after : Model) → answer ≡ answer-of (handled v c m .answer) → given ≡ handed c m → after ≡ handled v c m .after → Goes-on (v .reading) c answer given m after
 goes-on v c m answer given after e f g =
     subst (λ (a : ℕ). Goes-on (v .reading) c a given m after) (sym e)
-      (subst (λ (x : Option EiEvent). Goes-on (v .reading) c (answer-of (handled v c m .answer)) x m after) (sym f)
-        (subst (λ (k : Model). Goes-on (v .reading) c (answer-of (handled v c m .answer)) (handed c m) m k) (sym g)
-          (λ es r. (more r v c, record-law _ _ (more r v c)))))
+    (subst (λ (x : Option EiEvent). Goes-on (v .reading) c (answer-of (handled v c m .answer)) x m after) (sym f)
+    (subst (λ (k : Model). Goes-on (v .reading) c (answer-of (handled v c m .answer)) (handed c m) m k) (sym g)
+    (λ es r. (more r v c, record-law _ _ (more r v c)))))

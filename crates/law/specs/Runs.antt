@@ -52,7 +52,7 @@ recorded es reading c answer given after = record {
   reading = reading;
   answer = answer;
   given = given;
-  queued = (given-by es ++ at-some given [] (λ x. x ∷ [])) ++ after .store .queued
+  queued = (given-by es ++ at-some given [] (λ x. x ∷ [])) ++ after .store .queued;
 }
 
 -- the entry of a call on a converter, after the entries before it

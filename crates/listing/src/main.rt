@@ -18,7 +18,9 @@ use std::alloc::Global;
 use std::error::AnyError;
 
 const SEAT: u64 = 101;
+
 const DEVICE: u64 = 201;
+
 const KEYBOARD: u64 = 301;
 
 fn key(key: u32, state: KeyState) -> Event<'static> {

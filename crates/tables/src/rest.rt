@@ -6,9 +6,18 @@ pub enum Rest {
     // Nothing.
     Nothing,
     // An event of a device is to be queued, behind a frame at the host's reading where something is pending for the device.
-    Untimed { device: u32, event: EiEvent },
+    Untimed {
+        device: u32,
+        event: EiEvent,
+    },
     // A ping is to be answered.
-    Pong { ping: u64 },
+    Pong {
+        ping: u64,
+    },
     // A ticket is to be run, and its callback forgotten.
-    Run { callback: u64, ticket: u32, data: u64 },
+    Run {
+        callback: u64,
+        ticket: u32,
+        data: u64,
+    },
 }

@@ -13,6 +13,7 @@ ghost use Rattle.tables.specs.Model.{fresh};
 ghost use Rattle.tables.specs.Outcomes.{handled};
 ghost use Rattle.tables.specs.Told.{told};
 ghost use Rattle.converter.specs.Contract.{model, view, Comes};
+use super::EiEventConverter;
 use ei::error::EventError;
 use ei::event::EiEvent;
 use ei::proto::Event;
@@ -20,7 +21,6 @@ use ei::set::CapabilitySet;
 use host::Host;
 use std::alloc::Global;
 use tables::state::Tables;
-use super::EiEventConverter;
 
 impl<H: Host> EiEventConverter<H> {
     // A new converter with this first serial, and all its room reserved. Where memory is short the host comes back.

@@ -12,6 +12,7 @@ ghost use Rattle.tables.specs.Rests.{finish};
 ghost use Rattle.tables.specs.Rules.{untimed-queued};
 ghost use Rattle.tables.specs.Told.{told};
 ghost use Rattle.converter.specs.Contract.{model, view, Was-asked, Comes};
+use super::EiEventConverter;
 use ei::error::EventError;
 use ei::event::EiEvent;
 use ei::proto::Event;
@@ -20,7 +21,6 @@ use host::Host;
 use std::alloc::Global;
 use tables::rest::Rest;
 use tables::state::Tables;
-use super::EiEventConverter;
 
 impl<H: Host> EiEventConverter<H> {
     pub(super) fn reserve(heap: Global, host: H, serial: u32) -> Result<EiEventConverter<H>, H>
@@ -83,7 +83,11 @@ impl<H: Host> EiEventConverter<H> {
                     Err(EventError::HostFull)
                 }
             }
-            Rest::Run { callback, ticket, data } => {
+            Rest::Run {
+                callback,
+                ticket,
+                data,
+            } => {
                 if self.host.run(ticket, data) {
                     self.tables.forget_callback(callback);
                     Ok(())

@@ -7,6 +7,7 @@ ghost use Rattle.records.specs.Listing.{entry-at};
 ghost use Rattle.records.specs.Rows.{first};
 ghost use Rattle.tables.specs.Rules.{seat-by-handle, device-by-handle};
 ghost use Rattle.converter.specs.Contract.{model, shown-as};
+use super::EiEventConverter;
 use ei::capability::DeviceCapability;
 use ei::device::Keymap;
 use ei::enums::DeviceType;
@@ -15,7 +16,6 @@ use ei::interface::Interface;
 use ei::text::Text;
 use host::Host;
 use records::regions::Regions;
-use super::EiEventConverter;
 
 impl<H: Host> EiEventConverter<H> {
     // The last serial that the server sent.
@@ -121,7 +121,11 @@ impl<H: Host> EiEventConverter<H> {
     }
 
     // Whether a device lists an object of a capability's interface.
-    pub fn has_capability(&self, device: u32, capability: DeviceCapability) -> Result<bool, EventError>
+    pub fn has_capability(
+        &self,
+        device: u32,
+        capability: DeviceCapability,
+    ) -> Result<bool, EventError>
         ensures { λ r. ⌜ r ≡ okOr (mapped (λ row. isSome (entry-at (row .list) capability)) (first (device-by-handle device) (model (now (self .entry)) .devices))) refusals.NoSuchHandle ⌝ }
     {
         match self.tables.device(device) {

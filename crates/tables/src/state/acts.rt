@@ -3,6 +3,8 @@ ghost use mathlib.Core.Path.{_≡_};
 ghost use Rattle.tables.specs.Rests.{Takes};
 ghost use Rattle.tables.specs.Shown.{model-of};
 ghost use Rattle.tables.specs.Told.{keyboard-call, pointer-call, pointer-absolute-call, button-call};
+use super::Tables;
+use crate::rest::Rest;
 use ei::capability::DeviceCapability;
 use ei::device::Keymap;
 use ei::error::EventError;
@@ -16,11 +18,13 @@ use ei::proto::ButtonEvent;
 use ei::proto::KeyboardEvent;
 use ei::proto::PointerAbsoluteEvent;
 use ei::proto::PointerEvent;
-use super::Tables;
-use crate::rest::Rest;
 
 impl Tables {
-    pub(super) fn keyboard_event(&mut self, keyboard: u64, event: KeyboardEvent) -> Result<Rest, EventError>
+    pub(super) fn keyboard_event(
+        &mut self,
+        keyboard: u64,
+        event: KeyboardEvent,
+    ) -> Result<Rest, EventError>
         ensures { λ r. ⌜ Takes (keyboard-call keyboard event) (model-of (now (self .entry))) r (model-of (now (self .exit))) ⌝ }
     {
         let object = Object {
@@ -28,7 +32,11 @@ impl Tables {
             number: keyboard,
         };
         match event {
-            KeyboardEvent::Keymap { keymap_type, size, keymap } => self.keymap_arrives(
+            KeyboardEvent::Keymap {
+                keymap_type,
+                size,
+                keymap,
+            } => self.keymap_arrives(
                 keyboard,
                 Keymap {
                     fd: keymap,
@@ -37,7 +45,13 @@ impl Tables {
                 },
             ),
             KeyboardEvent::Key { key, state } => self.key(object, key, state),
-            KeyboardEvent::Modifiers { serial, depressed, locked, latched, group } => {
+            KeyboardEvent::Modifiers {
+                serial,
+                depressed,
+                locked,
+                latched,
+                group,
+            } => {
                 let event = KeyboardModifiers {
                     device: 0,
                     serial,
@@ -52,7 +66,11 @@ impl Tables {
         }
     }
 
-    pub(super) fn pointer_event(&mut self, pointer: u64, event: PointerEvent) -> Result<Rest, EventError>
+    pub(super) fn pointer_event(
+        &mut self,
+        pointer: u64,
+        event: PointerEvent,
+    ) -> Result<Rest, EventError>
         ensures { λ r. ⌜ Takes (pointer-call pointer event) (model-of (now (self .entry))) r (model-of (now (self .exit))) ⌝ }
     {
         let object = Object {
@@ -62,13 +80,22 @@ impl Tables {
         match event {
             PointerEvent::MotionRelative { x, y } => {
                 let device = self.owner(object)?;
-                self.hold(EiEvent::PointerMotion(PointerMotion { device, time: 0, dx: x, dy: y }))
+                self.hold(EiEvent::PointerMotion(PointerMotion {
+                    device,
+                    time: 0,
+                    dx: x,
+                    dy: y,
+                }))
             }
             PointerEvent::Destroyed { serial } => self.object_gone(object, serial),
         }
     }
 
-    pub(super) fn pointer_absolute_event(&mut self, pointer: u64, event: PointerAbsoluteEvent) -> Result<Rest, EventError>
+    pub(super) fn pointer_absolute_event(
+        &mut self,
+        pointer: u64,
+        event: PointerAbsoluteEvent,
+    ) -> Result<Rest, EventError>
         ensures { λ r. ⌜ Takes (pointer-absolute-call pointer event) (model-of (now (self .entry))) r (model-of (now (self .exit))) ⌝ }
     {
         let object = Object {
@@ -90,7 +117,11 @@ impl Tables {
         }
     }
 
-    pub(super) fn button_event(&mut self, button: u64, event: ButtonEvent) -> Result<Rest, EventError>
+    pub(super) fn button_event(
+        &mut self,
+        button: u64,
+        event: ButtonEvent,
+    ) -> Result<Rest, EventError>
         ensures { λ r. ⌜ Takes (button-call button event) (model-of (now (self .entry))) r (model-of (now (self .exit))) ⌝ }
     {
         let object = Object {
@@ -100,7 +131,12 @@ impl Tables {
         match event {
             ButtonEvent::Button { button, state } => {
                 let device = self.owner(object)?;
-                self.hold(EiEvent::Button(Button { device, time: 0, button, state }))
+                self.hold(EiEvent::Button(Button {
+                    device,
+                    time: 0,
+                    button,
+                    state,
+                }))
             }
             ButtonEvent::Destroyed { serial } => self.object_gone(object, serial),
         }

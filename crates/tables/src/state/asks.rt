@@ -9,17 +9,17 @@ ghost use Rattle.store.specs.Moves.{can-commit, can-hold, has-pending};
 ghost use Rattle.tables.specs.Model.{fresh};
 ghost use Rattle.tables.specs.Rules.{no-places-for, owner-of};
 ghost use Rattle.tables.specs.Shown.{model-of};
+use super::Tables;
 use ei::error::EventError;
 use ei::event::Frame;
 use ei::object::Object;
+use records::callback::CallbackRowRow;
+use records::device::DeviceRowRow;
+use records::seat::SeatRowRow;
 use records::table::Table;
 use std::alloc::AllocError;
 use std::alloc::Global;
 use store::EventStore;
-use super::Tables;
-use records::callback::CallbackRowRow;
-use records::device::DeviceRowRow;
-use records::seat::SeatRowRow;
 
 impl Tables {
     // Empty tables with all their room reserved.
@@ -84,6 +84,8 @@ impl Tables {
     pub(super) fn owner(&self, object: Object) -> Result<u32, EventError>
         ensures { λ r. ⌜ r ≡ okOr (owner-of object (model-of (now (self .entry)))) refusals.DeviceEventBeforeDone ⌝ }
     {
-        self.devices.owner(object).ok_or(EventError::DeviceEventBeforeDone)
+        self.devices
+            .owner(object)
+            .ok_or(EventError::DeviceEventBeforeDone)
     }
 }

@@ -12,6 +12,9 @@ ghost use Rattle.tables.specs.Refusal.{refusal, of-places};
 ghost use Rattle.tables.specs.Rests.{finish, Takes};
 ghost use Rattle.tables.specs.Rules.{device-at, no-places-for, untimed-queued};
 ghost use Rattle.tables.specs.Shown.{model-of};
+use super::Tables;
+use crate::rest::Rest;
+use crate::shortage::Shortage;
 use ei::error::EventError;
 use ei::event::DeviceAdded;
 use ei::event::DeviceRemoved;
@@ -22,9 +25,6 @@ use records::device::DeviceRowRow;
 use records::device::DeviceStep;
 use records::device::Stage;
 use records::standing::Standing;
-use super::Tables;
-use crate::rest::Rest;
-use crate::shortage::Shortage;
 
 impl Tables {
     // Former owners give up what the device lists, and the live device of the number is detached, before the pending one is live.
@@ -46,9 +46,10 @@ impl Tables {
             ..Shortage::NONE
         };
         short.check()?;
+        let done = DeviceStep::Take(Stage::Done(handle));
         self.devices.step_all(DeviceStep::GiveUp(list));
-        self.devices.step(device, Standing::Live, DeviceStep::Take(Stage::Done(handle)));
-        self.devices.step(device, Standing::Pending, DeviceStep::Take(Stage::Done(handle)));
+        self.devices.step(device, Standing::Live, done);
+        self.devices.step(device, Standing::Pending, done);
         self.handles = handle;
         Ok(Rest::Untimed {
             device: handle,
@@ -71,7 +72,12 @@ impl Tables {
     }
 
     // An untimed event of a device, where it and the frame that it may force find their places.
-    pub(super) fn untimed(&mut self, device: u32, serial: u32, event: EiEvent) -> Result<Rest, EventError>
+    pub(super) fn untimed(
+        &mut self,
+        device: u32,
+        serial: u32,
+        event: EiEvent,
+    ) -> Result<Rest, EventError>
         ensures { λ r. ⌜ ((v : View) → finish v r (model-of (now (self .exit))) ≡ unless (refusal (of-places (no-places-for device (model-of (now (self .entry)) .store)))) (model-of (now (self .entry))) (untimed-queued v device event (with-serial serial (model-of (now (self .entry)))))) ⌝ }
     {
         let short = Shortage {
@@ -83,7 +89,12 @@ impl Tables {
         Ok(Rest::Untimed { device, event })
     }
 
-    pub(super) fn device_framed(&mut self, device: u64, serial: u32, time: u64) -> Result<Rest, EventError>
+    pub(super) fn device_framed(
+        &mut self,
+        device: u64,
+        serial: u32,
+        time: u64,
+    ) -> Result<Rest, EventError>
         ensures { λ r. ⌜ Takes (device-frame device serial time) (model-of (now (self .entry))) r (model-of (now (self .exit))) ⌝ }
     {
         let handle = self.live_device(device, serial)?;
@@ -120,7 +131,8 @@ impl Tables {
         short.check()?;
         self.devices.remove(device, Standing::Pending);
         self.devices.step_all(DeviceStep::GiveUp(list));
-        self.devices.step(device, Standing::Live, DeviceStep::Take(Stage::Destroyed));
+        self.devices
+            .step(device, Standing::Live, DeviceStep::Take(Stage::Destroyed));
         self.serial = serial;
         Ok(Rest::Untimed {
             device: handle,

@@ -3,6 +3,8 @@ ghost use mathlib.Core.Path.{_≡_};
 ghost use Rattle.tables.specs.Rests.{Takes};
 ghost use Rattle.tables.specs.Shown.{model-of};
 ghost use Rattle.tables.specs.Told.{told, connection-call, callback-call, seat-call, device-call};
+use super::Tables;
+use crate::rest::Rest;
 use ei::device::Region;
 use ei::error::EventError;
 use ei::proto::CallbackEvent;
@@ -13,8 +15,6 @@ use ei::proto::SeatEvent;
 use records::callback::CallbackRowRow;
 use records::device::Detail;
 use records::standing::Standing;
-use super::Tables;
-use crate::rest::Rest;
 
 impl Tables {
     // Takes an event, and answers what is left of it for the host to do.
@@ -43,8 +43,15 @@ impl Tables {
         match event {
             ConnectionEvent::Seat { seat } => self.seat_arrives(seat),
             ConnectionEvent::Ping { ping } => Ok(Rest::Pong { ping }),
-            ConnectionEvent::Disconnected { last_serial, reason, explanation } => self.connection_ends(last_serial, reason, explanation),
-            ConnectionEvent::InvalidObject { last_serial: _, invalid_id: _ } => Ok(Rest::Nothing),
+            ConnectionEvent::Disconnected {
+                last_serial,
+                reason,
+                explanation,
+            } => self.connection_ends(last_serial, reason, explanation),
+            ConnectionEvent::InvalidObject {
+                last_serial: _,
+                invalid_id: _,
+            } => Ok(Rest::Nothing),
         }
     }
 
@@ -80,9 +87,21 @@ impl Tables {
     {
         match event {
             DeviceEvent::Name { name } => self.device_named(device, name),
-            DeviceEvent::DeviceType { device_type } => self.device_detailed(device, Detail::Type(device_type)),
-            DeviceEvent::Dimensions { width, height } => self.device_detailed(device, Detail::Dimensions(width, height)),
-            DeviceEvent::Region { offset_x, offset_y, width, height, scale } => self.device_placed(
+            DeviceEvent::DeviceType { device_type } => self.device_detailed(
+                device,
+                Detail::Type(device_type),
+            ),
+            DeviceEvent::Dimensions { width, height } => self.device_detailed(
+                device,
+                Detail::Dimensions(width, height),
+            ),
+            DeviceEvent::Region {
+                offset_x,
+                offset_y,
+                width,
+                height,
+                scale,
+            } => self.device_placed(
                 device,
                 Region {
                     x: offset_x,
@@ -98,9 +117,17 @@ impl Tables {
             DeviceEvent::Done => self.device_ready(device),
             DeviceEvent::Resumed { serial } => self.device_resumed(device, serial),
             DeviceEvent::Paused { serial } => self.device_paused(device, serial),
-            DeviceEvent::StartEmulating { serial, sequence } => self.device_starts(device, serial, sequence),
+            DeviceEvent::StartEmulating { serial, sequence } => self.device_starts(
+                device,
+                serial,
+                sequence,
+            ),
             DeviceEvent::StopEmulating { serial } => self.device_stops(device, serial),
-            DeviceEvent::Frame { serial, timestamp } => self.device_framed(device, serial, timestamp),
+            DeviceEvent::Frame { serial, timestamp } => self.device_framed(
+                device,
+                serial,
+                timestamp,
+            ),
             DeviceEvent::Destroyed { serial } => self.device_gone(device, serial),
         }
     }

@@ -11,6 +11,9 @@ ghost use Rattle.tables.specs.Refusal.{refusal, of-places};
 ghost use Rattle.tables.specs.Rests.{finish, Takes};
 ghost use Rattle.tables.specs.Rules.{owner-of, serial-anyway};
 ghost use Rattle.tables.specs.Shown.{model-of};
+use super::Tables;
+use crate::rest::Rest;
+use crate::shortage::Shortage;
 use ei::capability::DeviceCapability;
 use ei::device::Keymap;
 use ei::enums::KeyState;
@@ -22,26 +25,36 @@ use ei::object::Object;
 use records::device::Detail;
 use records::device::DeviceStep;
 use records::device::Stage;
-use super::Tables;
-use crate::rest::Rest;
-use crate::shortage::Shortage;
 
 impl Tables {
     pub(super) fn keymap_arrives(&mut self, keyboard: u64, map: Keymap) -> Result<Rest, EventError>
         ensures { λ r. ⌜ Takes (keymap keyboard map) (model-of (now (self .entry))) r (model-of (now (self .exit))) ⌝ }
     {
-        if self.devices.step_lister(keyboard, DeviceStep::Take(Stage::Setup(Detail::Keymap(map)))) {
+        if self.devices.step_lister(
+            keyboard,
+            DeviceStep::Take(Stage::Setup(Detail::Keymap(map))),
+        ) {
             Ok(Rest::Nothing)
         } else {
             Err(EventError::DeviceSetupEventAfterDone)
         }
     }
 
-    pub(super) fn key(&mut self, object: Object, key: u32, state: KeyState) -> Result<Rest, EventError>
+    pub(super) fn key(
+        &mut self,
+        object: Object,
+        key: u32,
+        state: KeyState,
+    ) -> Result<Rest, EventError>
         ensures { λ r. ⌜ Takes (act object (press key state)) (model-of (now (self .entry))) r (model-of (now (self .exit))) ⌝ }
     {
         let device = self.owner(object)?;
-        self.hold(EiEvent::KeyboardKey(KeyboardKey { device, time: 0, key, state }))
+        self.hold(EiEvent::KeyboardKey(KeyboardKey {
+            device,
+            time: 0,
+            key,
+            state,
+        }))
     }
 
     // The handle of an object's owner. Where there is none the serial is set all the same.
@@ -59,7 +72,11 @@ impl Tables {
     }
 
     // The modifiers of a keyboard, for the device that owns it.
-    pub(super) fn modifiers(&mut self, keyboard: u64, event: KeyboardModifiers) -> Result<Rest, EventError>
+    pub(super) fn modifiers(
+        &mut self,
+        keyboard: u64,
+        event: KeyboardModifiers,
+    ) -> Result<Rest, EventError>
         ensures { λ r. ⌜ Takes (modifiers keyboard (event .serial) (record { depressed = event .depressed; latched = event .latched; locked = event .locked; group = event .group })) (model-of (now (self .entry))) r (model-of (now (self .exit))) ⌝ }
     {
         let object = Object {
@@ -68,7 +85,8 @@ impl Tables {
         };
         let serial = event.serial;
         let device = self.serial_owner(object, serial)?;
-        self.untimed(device, serial, EiEvent::KeyboardModifiers(KeyboardModifiers { device, ..event }))
+        let modified = EiEvent::KeyboardModifiers(KeyboardModifiers { device, ..event });
+        self.untimed(device, serial, modified)
     }
 
     // A timed event waits for the frame of its device.
@@ -88,7 +106,8 @@ impl Tables {
     pub(super) fn object_gone(&mut self, object: Object, serial: u32) -> Result<Rest, EventError>
         ensures { λ r. ⌜ Takes (object-destroyed object serial) (model-of (now (self .entry))) r (model-of (now (self .exit))) ⌝ }
     {
-        let owned = self.devices.step_owner(object, DeviceStep::Forget(object.kind));
+        let owned = self.devices
+            .step_owner(object, DeviceStep::Forget(object.kind));
         if owned {
             self.serial = serial;
             return Ok(Rest::Nothing);

@@ -4,6 +4,7 @@ ghost use lib.Dec.{eqb};
 ghost use Rattle.records.specs.Rows.{any};
 ghost use Rattle.tables.specs.Rules.{device-retirable, device-retired, owns-any, seat-retirable, seat-retired};
 ghost use Rattle.tables.specs.Shown.{model-of};
+use super::Tables;
 use ei::capability::DeviceCapability;
 use ei::error::EventError;
 use records::device::DeviceRow;
@@ -14,7 +15,6 @@ use records::seat::SeatRow;
 use records::seat::SeatRowHandled;
 use records::seat::SeatRowRow;
 use records::standing::Standing;
-use super::Tables;
 
 impl Tables {
     // Frees a device's record, and discards its pending events.
@@ -73,10 +73,11 @@ impl Tables {
             Standing::Pending => false,
             Standing::Live => false,
             Standing::Detached => {
-                if some_of_seat(self.devices.rows(), row.head.handle) {
+                let seat = row.head.handle;
+                if some_of_seat(self.devices.rows(), seat) {
                     false
                 } else {
-                    !self.store.names(row.head.handle)
+                    !self.store.names(seat)
                 }
             }
         }

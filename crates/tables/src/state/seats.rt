@@ -3,6 +3,9 @@ ghost use mathlib.Core.Path.{_≡_};
 ghost use Rattle.tables.specs.Calls.{seat-name, seat-capability, seat-done, seat-device, seat-destroyed};
 ghost use Rattle.tables.specs.Rests.{Takes};
 ghost use Rattle.tables.specs.Shown.{model-of};
+use super::Tables;
+use crate::rest::Rest;
+use crate::shortage::Shortage;
 use ei::capability::DeviceCapability;
 use ei::error::EventError;
 use ei::event::EiEvent;
@@ -15,9 +18,6 @@ use records::seat::SeatRowRow;
 use records::seat::SeatSetup;
 use records::seat::SeatStep;
 use records::standing::Standing;
-use super::Tables;
-use crate::rest::Rest;
-use crate::shortage::Shortage;
 
 impl Tables {
     pub(super) fn seat_named(&mut self, seat: u64, name: &[u8]) -> Result<Rest, EventError>
@@ -27,11 +27,20 @@ impl Tables {
             return Err(EventError::SeatSetupEventAfterDone);
         }
         let text = Shortage::NONE.check_text(name)?;
-        self.seats.step(seat, Standing::Pending, SeatStep::Setup(SeatSetup::Name(text)));
+        self.seats.step(
+            seat,
+            Standing::Pending,
+            SeatStep::Setup(SeatSetup::Name(text)),
+        );
         Ok(Rest::Nothing)
     }
 
-    pub(super) fn seat_capable(&mut self, seat: u64, mask: u64, interface: Option<DeviceCapability>) -> Result<Rest, EventError>
+    pub(super) fn seat_capable(
+        &mut self,
+        seat: u64,
+        mask: u64,
+        interface: Option<DeviceCapability>,
+    ) -> Result<Rest, EventError>
         ensures { λ r. ⌜ Takes (seat-capability seat mask interface) (model-of (now (self .entry))) r (model-of (now (self .exit))) ⌝ }
     {
         if !self.seats.has(seat, Standing::Pending) {
@@ -40,7 +49,11 @@ impl Tables {
         let Some(capability) = interface else {
             return Err(EventError::UnknownCapabilityInterface);
         };
-        self.seats.step(seat, Standing::Pending, SeatStep::Setup(SeatSetup::Capability(capability, mask)));
+        self.seats.step(
+            seat,
+            Standing::Pending,
+            SeatStep::Setup(SeatSetup::Capability(capability, mask)),
+        );
         Ok(Rest::Nothing)
     }
 
@@ -58,11 +71,14 @@ impl Tables {
         };
         short.check()?;
         let handle = self.handles + 1;
-        self.seats.step(seat, Standing::Live, SeatStep::Done(handle));
-        self.seats.step(seat, Standing::Pending, SeatStep::Done(handle));
+        self.seats
+            .step(seat, Standing::Live, SeatStep::Done(handle));
+        self.seats
+            .step(seat, Standing::Pending, SeatStep::Done(handle));
         self.handles = handle;
         // there is room
-        let _ = self.store.queue(EiEvent::SeatAdded(SeatAdded { seat: handle }));
+        let _ = self.store
+            .queue(EiEvent::SeatAdded(SeatAdded { seat: handle }));
         Ok(Rest::Nothing)
     }
 
@@ -95,7 +111,8 @@ impl Tables {
         self.seats.step(seat, Standing::Live, SeatStep::Destroyed);
         self.serial = serial;
         // there is room
-        let _ = self.store.queue(EiEvent::SeatRemoved(SeatRemoved { seat: handle }));
+        let _ = self.store
+            .queue(EiEvent::SeatRemoved(SeatRemoved { seat: handle }));
         Ok(Rest::Nothing)
     }
 }

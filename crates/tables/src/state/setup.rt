@@ -5,6 +5,9 @@ ghost use Rattle.tables.specs.Model.{View};
 ghost use Rattle.tables.specs.Rests.{finish, Takes};
 ghost use Rattle.tables.specs.Rules.{device-detailed};
 ghost use Rattle.tables.specs.Shown.{model-of};
+use super::Tables;
+use crate::rest::Rest;
+use crate::shortage::Shortage;
 use ei::device::Region;
 use ei::error::EventError;
 use ei::object::Object;
@@ -14,18 +17,23 @@ use records::device::DeviceRowRow;
 use records::device::DeviceStep;
 use records::device::Stage;
 use records::standing::Standing;
-use super::Tables;
-use crate::rest::Rest;
-use crate::shortage::Shortage;
 
 impl Tables {
-    pub(super) fn device_detailed(&mut self, device: u64, detail: Detail) -> Result<Rest, EventError>
+    pub(super) fn device_detailed(
+        &mut self,
+        device: u64,
+        detail: Detail,
+    ) -> Result<Rest, EventError>
         ensures { λ r. ⌜ ((v : View) → finish v r (model-of (now (self .exit))) ≡ device-detailed device detail (model-of (now (self .entry)))) ⌝ }
     {
         let Some(_) = self.devices.first(device, Standing::Pending) else {
             return Err(EventError::DeviceSetupEventAfterDone);
         };
-        self.devices.step(device, Standing::Pending, DeviceStep::Take(Stage::Setup(detail)));
+        self.devices.step(
+            device,
+            Standing::Pending,
+            DeviceStep::Take(Stage::Setup(detail)),
+        );
         Ok(Rest::Nothing)
     }
 
@@ -36,7 +44,11 @@ impl Tables {
             return Err(EventError::DeviceSetupEventAfterDone);
         };
         let text = Shortage::NONE.check_text(name)?;
-        self.devices.step(device, Standing::Pending, DeviceStep::Take(Stage::Setup(Detail::Name(text))));
+        self.devices.step(
+            device,
+            Standing::Pending,
+            DeviceStep::Take(Stage::Setup(Detail::Name(text))),
+        );
         Ok(Rest::Nothing)
     }
 
@@ -47,7 +59,11 @@ impl Tables {
             return Err(EventError::DeviceSetupEventAfterDone);
         };
         let text = Shortage::NONE.check_text(id)?;
-        self.devices.step(device, Standing::Pending, DeviceStep::Take(Stage::Setup(Detail::MappingId(text))));
+        self.devices.step(
+            device,
+            Standing::Pending,
+            DeviceStep::Take(Stage::Setup(Detail::MappingId(text))),
+        );
         Ok(Rest::Nothing)
     }
 
@@ -62,18 +78,30 @@ impl Tables {
             ..Shortage::NONE
         };
         short.check()?;
-        self.devices.step(device, Standing::Pending, DeviceStep::Take(Stage::Setup(Detail::Region(region))));
+        self.devices.step(
+            device,
+            Standing::Pending,
+            DeviceStep::Take(Stage::Setup(Detail::Region(region))),
+        );
         Ok(Rest::Nothing)
     }
 
-    pub(super) fn device_equipped(&mut self, device: u64, object: Option<Object>) -> Result<Rest, EventError>
+    pub(super) fn device_equipped(
+        &mut self,
+        device: u64,
+        object: Option<Object>,
+    ) -> Result<Rest, EventError>
         ensures { λ r. ⌜ Takes (device-interface device object) (model-of (now (self .entry))) r (model-of (now (self .exit))) ⌝ }
     {
         let Some(_) = self.devices.first(device, Standing::Pending) else {
             return Err(EventError::DeviceSetupEventAfterDone);
         };
         if let Some(object) = object {
-            self.devices.step(device, Standing::Pending, DeviceStep::Take(Stage::Interface(object)));
+            self.devices.step(
+                device,
+                Standing::Pending,
+                DeviceStep::Take(Stage::Interface(object)),
+            );
         }
         Ok(Rest::Nothing)
     }

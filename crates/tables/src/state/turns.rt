@@ -6,6 +6,8 @@ ghost use Rattle.store.specs.Moves.{given, queue-framed, rest};
 ghost use Rattle.tables.specs.Model.{with-callbacks, with-store};
 ghost use Rattle.tables.specs.Rules.{callback-added, callback-at, device-by-handle, frame-of, seat-by-handle};
 ghost use Rattle.tables.specs.Shown.{model-of};
+use super::Tables;
+use crate::shortage::Shortage;
 use ei::error::EventError;
 use ei::event::EiEvent;
 use ei::event::Frame;
@@ -19,8 +21,6 @@ use records::seat::SeatRow;
 use records::seat::SeatRowHandled;
 use records::seat::SeatRowRow;
 use records::standing::Standing;
-use super::Tables;
-use crate::shortage::Shortage;
 
 impl Tables {
     // An untimed event of a device is queued, behind a frame at this time where something is pending for the device. Where they do not

@@ -14,5 +14,5 @@ returns g c =
       place = k .place;
       left = k .left;
       host = k .host;
-      law = goes-on (view (g .H·Host .reading) (g .H·Host .notes) (g .H·Host .spare) (c .args .self .now .host)) _ m _ _ _ refl (filled (given (m .store)) (c .hand-out .result) (c .hand-out .last .place) (c .args .place .now) (k .answer) (k .place)) (k .left)
+      law = goes-on (view (g .H·Host .reading) (g .H·Host .notes) (g .H·Host .spare) (c .args .self .now .host)) _ m _ _ _ refl (filled (given (m .store)) (c .hand-out .result) (c .hand-out .last .place) (c .args .place .now) (k .answer) (k .place)) (k .left);
     }

@@ -15,5 +15,5 @@ returns g c =
     record {
       answer = refl;
       left = c .queue-untimed .ensures ∙ (ap (λ (k : Model). with-store (queue-framed (frame-of d (k .serial) t) e (k .store)) k) (c .frame-time-time .ensures .left) ∙ (ap (λ u. with-store (queue-framed (frame-of d (m .serial) u) e (m .store)) m) (c .frame-time-time .ensures .time) ∙ ap (λ s. with-store s m) (forced-time d (m .serial) (g .H·Host .reading (c .args .self .now .host)) e (m .store))));
-      asked = c .frame-time-time .ensures .asked
+      asked = c .frame-time-time .ensures .asked;
     }

@@ -23,5 +23,5 @@ returns g c =
     let room : ltb (length (rows-of (c .remove .last .self))) (g .N) ≡ true = ap (λ l. ltb (length l) (g .N)) (c .remove .ensures) ∙ room-without p rows (g .N) (omega (arith, c .args .self .now .few, c .args .self .now .rows .ok .0)) e in
     record {
       answer = c .push .ensures .answer ∙ (cond-true _ _ _ room ∙ sym (cond-false _ _ _ e));
-      after = c .push .ensures .after ∙ (cond-true _ _ _ room ∙ (ap (λ l. l ++ (c .args .row ∷ [])) (c .remove .ensures) ∙ sym (cond-false _ _ _ e)))
+      after = c .push .ensures .after ∙ (cond-true _ _ _ room ∙ (ap (λ l. l ++ (c .args .row ∷ [])) (c .remove .ensures) ∙ sym (cond-false _ _ _ e)));
     }

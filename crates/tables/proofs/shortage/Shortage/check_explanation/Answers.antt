@@ -13,4 +13,4 @@ use Rattle.tables.proofs.shortage.Shortage.check_explanation.Needs as need
 pub returns-in-Err : need.returns-in-Err
 returns-in-Err c =
     subst (λ (b : Option (RefT (List ℕ))). Err (c .in-Err .error) ≡ checked (refusal (of-text (some-too-long (mapped now b)) (c .args .self))) (mapped text-of (mapped now b)))
-      (sym (c .in-Some .is)) (failed _ _ _ _ (c .in-Err .ensures tt))
+    (sym (c .in-Some .is)) (failed _ _ _ _ (c .in-Err .ensures tt))

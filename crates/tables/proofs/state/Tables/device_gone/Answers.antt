@@ -22,4 +22,4 @@ returns c v =
     let ample = ap (λ b. refusal (of-places b)) (sym (c .lacks-places .ensures)) ∙ passed _ tt _ (c .in-Continue-check .ensures tt) in
     let rows = c .step .ensures ∙ ap (device-steps n Live (steps.Take stages.Destroyed)) (c .step-all .ensures ∙ ap (all-step (steps.GiveUp (row .list))) (c .remove-2 .ensures)) in
     ap (λ l. untimed-queued v h (events.DeviceRemoved (record { device = h })) (with-serial (c .args .serial) (with-devices l m))) rows
-      ∙ sym (at-some-is (first (device-at n Live) (m .devices)) row _ _ (sym (c .in-Some .ensures tt)) ∙ unless-none _ m _ ample)
+    ∙ sym (at-some-is (first (device-at n Live) (m .devices)) row _ _ (sym (c .in-Some .ensures tt)) ∙ unless-none _ m _ ample)

@@ -23,4 +23,4 @@ returns c v =
     let ample = ap (λ b. refusal (of-places-and-handles b (no-handle m))) (sym (c .lacks-places .ensures)) ∙ passed _ tt _ (c .in-Continue-check .ensures tt) in
     let rows = c .step-2 .ensures ∙ ap (device-steps n Pending (steps.Take (stages.Done h))) (c .step .ensures ∙ ap (device-steps n Live (steps.Take (stages.Done h))) (c .step-all .ensures)) in
     ap (λ l. untimed-queued v h (events.DeviceAdded (record { device = h })) (with-handles h (with-devices l m))) rows
-      ∙ sym (at-some-is (first (device-at n Pending) (m .devices)) row _ _ (sym (c .in-Some .ensures tt)) ∙ (at-some-is (row .description .«device_type») (c .in-Some-device-type .field-0) _ _ (c .in-Some-device-type .is) ∙ unless-none _ m _ ample))
+    ∙ sym (at-some-is (first (device-at n Pending) (m .devices)) row _ _ (sym (c .in-Some .ensures tt)) ∙ (at-some-is (row .description .«device_type») (c .in-Some-device-type .field-0) _ _ (c .in-Some-device-type .is) ∙ unless-none _ m _ ample))

@@ -8,5 +8,5 @@ returns c =
       seats = c .in-Continue-seats .ensures tt i;
       devices = c .in-Continue-devices .ensures tt i;
       callbacks = c .in-Continue-callbacks .ensures tt i;
-      store = c .in-Continue-store .ensures tt i
+      store = c .in-Continue-store .ensures tt i;
     }

@@ -1,0 +1,4 @@
+pub mod Numbers
+pub mod Quoting
+pub mod ReadBack
+pub mod Splits
