@@ -138,21 +138,26 @@ fn take(
     Ok(true)
 }
 
+// A line without its line feed.
+fn without_feed(line: &[u8]) -> &[u8] {
+    match line {
+        [text @ .., b'\n'] => text,
+        text => text,
+    }
+}
+
 fn run(rt: &LibcRuntime, heap: Global) -> Result<(), AnyError> {
     let mut session = Session::None;
+    let mut reader = BufReader::new(rt.stdin());
+    let mut line = Vec::new(heap);
     let mut scratch = Vec::new(heap);
-    let mut number: u64 = 0;
-    for line in BufReader::new(rt.stdin()).lines(heap) {
-        let line = line?;
-        number = number.saturating_add(1);
-        if !take(
-            rt,
-            heap,
-            &mut session,
-            number,
-            line.as_bytes(),
-            &mut scratch,
-        )? {
+    for number in 1..u64::MAX {
+        line.clear();
+        if reader.read_until(b'\n', &mut line)? == 0 {
+            break;
+        }
+        let text = without_feed(&line);
+        if !take(rt, heap, &mut session, number, text, &mut scratch)? {
             return Err("the session file is malformed".into());
         }
     }

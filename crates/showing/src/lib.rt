@@ -1,6 +1,7 @@
 // Events as lines of text: what the converter hands out, as it is printed.
 ghost use Rattle.std.specs.declared.option.Option.the-variants.{Some};
 ghost use Rattle.showing.specs.Showing.{event-line, explained, fields-of, flag, float-bits};
+use ei::device::Region;
 use ei::enums::ButtonStateNumbered;
 use ei::enums::DisconnectReasonNumbered;
 use ei::enums::KeyStateNumbered;
@@ -131,5 +132,27 @@ pub impl fmt::Display for EventLine<'_> as EventLineDisplay {
             event.time(),
             Fields(event)
         )
+    }
+}
+
+// A device's regions, a line each, in the order of their arrival: place, size, scale and mapping id.
+#[derive(Drop)]
+pub struct RegionLines<'a>(pub &'a [Region]);
+
+pub impl fmt::Display for RegionLines<'_> as RegionLinesDisplay {
+    fn fmt<W: fmt::Write>(&self, f: &mut fmt::Formatter<W>) -> fmt::Result {
+        for region in self.0 {
+            writeln!(
+                f,
+                "{} {} {} {} {} {}",
+                region.x,
+                region.y,
+                region.width,
+                region.height,
+                Bits(region.scale),
+                Explained(region.mapping_id)
+            )?;
+        }
+        Ok(())
     }
 }
