@@ -4,4 +4,5 @@ mod limits;
 mod order;
 mod play;
 mod refusals;
+mod retiring;
 mod store;

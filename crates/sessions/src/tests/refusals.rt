@@ -1,5 +1,4 @@
-// Each refusal, and what it leaves; 9, 10 and 15 stand with the limits. Two are left out: 11 comes only after a million handles, and
-// no test can give so many, since detached rows stay and a table has few; 14 comes with retiring.
+// Each refusal, and what it leaves; 9, 10 and 15 stand with the limits, 11 and 14 with retiring.
 use crate::line::Call;
 use crate::line::DeviceCall;
 use crate::line::Line;
