@@ -5,7 +5,7 @@ ghost use Rattle.std.specs.Numbers.{Checked};
 ghost use lib.ListN.{length};
 ghost use Rattle.std.specs.Reads.{Digits, value};
 ghost use Rattle.std.specs.Text.{digitValue};
-ghost use Rattle.wording.specs.Numbers.{number-read, Reads-float};
+ghost use Rattle.wording.specs.Numbers.{number-read, integer-read, integer-within, Reads-float};
 use crate::malformed::Malformed;
 use std::num::f32_from_bits_with_nan;
 
@@ -36,15 +36,23 @@ pub fn decimal(word: &[u8]) -> Result<u64, Malformed>
     number.ok_or(Malformed::OutOfRange)
 }
 
-// The number of 32 bits that a word of decimal digits writes, which may have a minus sign in front.
-pub fn integer(word: &[u8]) -> Result<i32, Malformed> {
-    let number = match word {
-        [b'-', digits @ ..] => -i128::from(decimal(digits)?),
-        digits => i128::from(decimal(digits)?),
-    };
+// The number as one of 32 bits.
+fn within(number: i128) -> Result<i32, Malformed>
+    ensures { λ r. ⌜ r ≡ integer-within number ⌝ }
+{
     match i32::try_from(number) {
         Ok(number) => Ok(number),
         Err(_) => Err(Malformed::OutOfRange),
+    }
+}
+
+// The number of 32 bits that a word of decimal digits writes, which may have a minus sign in front.
+pub fn integer(word: &[u8]) -> Result<i32, Malformed>
+    ensures { λ r. ⌜ r ≡ integer-read (now (word .entry)) ⌝ }
+{
+    match word {
+        [b'-', digits @ ..] => within(-i128::from(decimal(digits)?)),
+        digits => within(i128::from(decimal(digits)?)),
     }
 }
 
