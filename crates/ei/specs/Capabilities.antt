@@ -1,6 +1,6 @@
 -- The seven interfaces that a device may have: their names, their places, and the masks that bind them. Written from the
 -- libei EI protocol document.
-use Rattle.std.specs.Prelude.{ℕ, ◌/◌, ◌%◌, ◌^◌, Bool, List, [], ◌∷◌, map, set, replicate, codes, fold, filter, ◌==◌, bit_or, slice_index, slice_set}
+use Rattle.std.specs.Prelude.{ℕ, ◌/◌, ◌%◌, ◌^◌, Bool, List, [], ◌∷◌, map, replicate, codes, fold, filter, ◌==◌, bit_or, slice_index, slice_set}
 use Rattle.ei.specs.declared.capability.DeviceCapability.{DeviceCapability}
 use Rattle.ei.specs.declared.capability.DeviceCapability.TheVariants.{Pointer, PointerAbsolute, Keyboard, Touch, Scroll, Button, Text}
 use Rattle.ei.specs.declared.capability.CapabilityMap.{CapabilityMap}

@@ -1,4 +1,6 @@
 // The words of the EI protocol that the converter speaks: capabilities, objects, texts, events and refusals.
+#![tactic(auto)]
+
 pub mod capability;
 pub mod device;
 pub mod enums;

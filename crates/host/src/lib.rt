@@ -1,4 +1,6 @@
 // What a converter asks of the program that runs it: the time, and a place for a note.
+#![tactic(auto)]
+
 ghost use Rattle.std.specs.Prelude.{◌≡◌, ℕ, List, Some};
 ghost use Rattle.host.specs.Leaving.{Leaves};
 ghost use Rattle.host.specs.Spelling.{spelled};

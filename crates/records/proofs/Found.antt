@@ -1,5 +1,5 @@
 -- A search over a list that equals the rows, and a step at the place that it found.
-use Rattle.std.proofs.Common.{◌≡◌, ℕ, Bool, true, false, List, Some, None, sym, ◌∙◌, subst}
+use Rattle.std.proofs.Common.{◌≡◌, ℕ, Bool, true, false, List, Some, None, sym, subst}
 use Rattle.records.proofs.Rows.{any_found, changed_at_found, changed_none}
 use Rattle.records.specs.Rows.{Finds, any, changed, changed_at}
 

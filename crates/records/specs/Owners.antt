@@ -1,5 +1,5 @@
 -- Which device owns an object, and which one a keymap is for.
-use Rattle.std.specs.Prelude.{ℕ, Bool, true, false, cond}
+use Rattle.std.specs.Prelude.{ℕ, Bool, false, cond}
 use Rattle.ei.specs.declared.capability.DeviceCapability.{DeviceCapability}
 use Rattle.ei.specs.declared.capability.DeviceCapability.TheVariants.{Pointer, PointerAbsolute, Keyboard, Touch, Scroll, Button, Text}
 use Rattle.ei.specs.declared.object.Object.{Object}

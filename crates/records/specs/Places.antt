@@ -1,5 +1,5 @@
 -- The regions of a device, by the list of those in use.
-use Rattle.std.specs.Prelude.{◌≡◌, ℕ, ◌+◌, ◌≤◌, min, List, length, take, replicate, None, from_bits, slice_set, refl}
+use Rattle.std.specs.Prelude.{◌+◌, min, List, take, replicate, None, from_bits, slice_set, refl}
 use Rattle.std.proofs.Common.{◌∙◌, arith, length-set}
 use Rattle.std.specs.Float.{binary32}
 use Rattle.ei.specs.declared.device.Region.{Region}

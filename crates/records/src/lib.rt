@@ -1,4 +1,6 @@
 // The rows kept for seats, devices and callbacks, and the tables that hold them.
+#![tactic(auto)]
+
 pub mod callback;
 pub mod device;
 pub mod list;

@@ -1,7 +1,7 @@
 -- A store and its contents.
-use Rattle.std.proofs.Common.{◌≡◌, ℕ, ◌+◌, ◌≤◌, Bool, true, false, List, [], ◌∷◌, ◌++◌, map, length, vec_len, deque_len, filter, sym, refl, ap, ◌∙◌, arith}
+use Rattle.std.proofs.Common.{◌≡◌, ℕ, ◌+◌, ◌<◌, ◌≤◌, Bool, true, false, List, [], ◌∷◌, ◌++◌, map, length, get_or, drop, vec_len, deque_len, filter, sym, refl, ap, ◌∙◌, arith}
 use Rattle.std.proofs.lemmas.List.Filters.{length-filter_both}
-use Rattle.std.proofs.lemmas.List.{nil_from_length, length-append, length-map}
+use Rattle.std.proofs.lemmas.List.{drop_more, nil_from_length, length-append, length-map}
 use Rattle.std.proofs.lemmas.Bool.{leb-true, le-leb}
 use Rattle.ei.specs.Events.{at_time}
 use Rattle.ei.specs.declared.event.EiEvent.{EiEvent}
@@ -29,6 +29,10 @@ unfolding fits
 fits_from n c h = le-leb (held c + n) 256 h
 
 -- A search goes on while what is left decides it.
+
+-- what is left from a place on begins with the event there
+pub next_at : (es : List EiEvent) (i : ℕ) (e : EiEvent) → i < length es → e ≡ get_or es i e → drop i es ≡ e ∷ drop (i + 1) es
+next_at es i e h is = drop_more es i e h ∙ ap (λ x. x ∷ drop (i + 1) es) (sym is)
 
 pub sought_found : (p : EiEvent → Bool) (left after : List EiEvent) (e : EiEvent) → left ≡ e ∷ after → p e ≡ true → some (filter p left) ≡ true
 sought_found p left after e step t = ap (λ l. some (filter p l)) step ∙ ap some (kept_yes p e after t)

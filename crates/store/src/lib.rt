@@ -1,4 +1,6 @@
 // The event store: events that wait for their device's frame, and events that are queued to be handed out.
+#![tactic(auto)]
+
 mod kept;
 mod laws;
 

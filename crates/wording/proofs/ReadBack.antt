@@ -1,15 +1,13 @@
 -- What was quoted is read back.
-use Rattle.std.proofs.Common.{◌≡◌, ℕ, ◌+◌, ◌*◌, ◌/◌, ◌%◌, ◌<◌, ◌≤◌, true, false, cond, eqb, ltb, List, [], ◌∷◌, ◌++◌, Some, None, Option, sym, refl, ap, ◌∙◌, subst, ⊎_elim, append_assoc, div-add-mod', arith}
+use Rattle.std.proofs.Common.{◌≡◌, ℕ, ◌+◌, ◌*◌, ◌/◌, ◌%◌, ◌<◌, ◌≤◌, eqb, ltb, List, [], ◌∷◌, ◌++◌, Some, Option, sym, refl, ap, ◌∙◌, subst, ⊎_elim, append_assoc, div-add-mod', arith}
 use Rattle.std.proofs.lemmas.Bool.{cases_eq, cases_lt, cond-true, cond-false, ne_eqb, lt-ltb}
 use Rattle.std.proofs.lemmas.Str.{digit_value-digit_char}
 use Rattle.std.proofs.lemmas.Bool.Decides.{nat_tests}
 use Rattle.std.specs.Option.{option_map}
 use Rattle.std.specs.Char.{digit_char, digit_value}
-use Rattle.std.specs.List.{AllByRecursion as All}
-use Rattle.wording.specs.declared.quote.Place.{Place}
-use Rattle.wording.specs.declared.quote.Place.TheVariants.{Between, Escape, High, Low, Closed}
+use Rattle.wording.specs.declared.quote.Place.TheVariants.{Between}
 use Rattle.wording.specs.declared.quote.Step.{Step}
-use Rattle.wording.specs.Quoting.{hex_byte, quoted_byte, quoted_bytes, hex_pair, goes, completes, step_of, onward, unquoted_from, ReadBack}
+use Rattle.wording.specs.Quoting.{hex_byte, quoted_byte, quoted_bytes, hex_pair, completes, onward, unquoted_from, ReadBack}
 use Rattle.wording.proofs.Quoting.{ahead, read_on}
 
 -- the reading of the bytes behind one that is complete

@@ -1,5 +1,5 @@
 -- The words of a line, with one space between.
-use Rattle.std.specs.Prelude.{ℕ, cond, List, [], ◌∷◌, length, Some, None, Ok, Err, Option, Result, ◌==◌}
+use Rattle.std.specs.Prelude.{ℕ, cond, List, [], ◌∷◌, Some, None, Ok, Err, Option, Result, ◌==◌}
 use Rattle.wording.specs.declared.malformed.Malformed.{Malformed}
 use Rattle.wording.specs.declared.malformed.Malformed.TheVariants.{ExtraWord, MissingWord}
 use Rattle.wording.specs.Quoting.{unquoted}

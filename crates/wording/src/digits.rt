@@ -83,7 +83,7 @@ pub fn float(word: &[u8]) -> Result<f32, Malformed>
     let Some((prefix, digits)) = word.split_at_checked(2) else {
         return Err(Malformed::NotAFloat);
     };
-    if prefix != b"0x" {
+    if prefix != b"0x".as_slice() {
         return Err(Malformed::NotAFloat);
     }
     match hex_word(digits) {

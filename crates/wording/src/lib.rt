@@ -1,4 +1,6 @@
 // Lines of words: their numbers, their floats and their quoted texts.
+#![tactic(auto)]
+
 mod digits;
 mod malformed;
 mod quote;

@@ -1,4 +1,4 @@
-use Rattle.std.proofs.Common.{◌≡◌, ℕ, ◌<◌, Bool, true, false, List, length, get_or, sym, refl, ◌∙◌, subst, zero-le, arith, below_more}
+use Rattle.std.proofs.Common.{◌≡◌, ℕ, ◌<◌, Bool, true, false, List, length, get_or, sym, ◌∙◌, subst, zero-le, arith, below_more}
 use Rattle.std.proofs.lemmas.List.Elements.{at_read, AllWithin-more}
 use Rattle.std.proofs.lemmas.List.{get_or_default}
 use Rattle.std.proofs.lemmas.Bool.{cond-true, cond-false, false≢true}
@@ -12,7 +12,7 @@ use Rattle.records.specs.Listing.{lists}
 use Rattle.records.specs.Owners.{pending_lists, entry_is, keyboard_of}
 use Rattle.records.specs.Rows.{same_standing}
 use Rattle.records.proofs.owners.pending_lister.Goals as goal
-use Rattle.records.proofs.owners.pending_lister.Goals.{then-is-pending+else-loop-kind-test, else-is-pending}
+use Rattle.records.proofs.owners.pending_lister.Goals.{then-is_pending+else-loop-kind-test, else-is_pending}
 
 -- what holds of the row that was read holds of it at any default
 at_default : (devices : List DeviceRow) (i : ℕ) (x d : DeviceRow) (P : DeviceRow → Type 0) → i < length devices → P (get_or devices i x) → P (get_or devices i d)
@@ -37,7 +37,7 @@ not_pending n row p = cond-false (same_standing row.head.standing Pending) _ _ (
 
 pub loop-kind-preserved : goal.loop-kind-preserved
 loop-kind-preserved c =
-    below_more _ _ c.loop-kind.invariant (at_read c.args.devices.now (λ row. entry_is c.args.keyboard (get_or every_capability c.loop-kind.kind-index Pointer) row.list ≡ false) c.loop-i.i c.index-devices-i-in-loop-kind.result c.loop-i-test.true c.index-devices-i-in-loop-kind.is (sym c.if-is-keyboard.ensures))
+    below_more _ _ c.loop-kind.invariant (at_read c.args.devices.now (λ row. entry_is c.args.keyboard (get_or every_capability c.loop-kind.kind-index Pointer) row.list ≡ false) c.loop-i.i c.index-devices-i-in-loop-kind.result c.loop-i-test.true c.index-devices-i-in-loop-kind.is (sym c.if-is_keyboard.ensures))
 
 pub loop-i-preserved : goal.loop-i-preserved
 loop-i-preserved c =
@@ -47,13 +47,13 @@ loop-i-preserved c =
     let x = c.index-devices-i.result in
     AllWithin-more (λ row. pending_lists n row ≡ false) devices 0 i c.loop-i.invariant
     (λ d. at_default devices i x d (λ row. pending_lists n row ≡ false) c.loop-i-test.true
-    (elim c.if-is-pending.branch [
-      | then-is-pending+else-loop-kind-test w ↦ as_listed n (get_or devices i x) false w.if-is-pending.ensures (w.loop-kind.invariant 2 (omega (arith, w.loop-kind-test.false)) x)
-      | else-is-pending w ↦ not_pending n (get_or devices i x) w.if-is-pending.ensures
+    (elim c.if-is_pending.branch [
+      | then-is_pending+else-loop-kind-test w ↦ as_listed n (get_or devices i x) false w.if-is_pending.ensures (w.loop-kind.invariant 2 (omega (arith, w.loop-kind-test.false)) x)
+      | else-is_pending w ↦ not_pending n (get_or devices i x) w.if-is_pending.ensures
     ]))
 
-pub returns-then-is-keyboard : goal.returns-then-is-keyboard
-returns-then-is-keyboard c =
+pub returns-then-is_keyboard : goal.returns-then-is_keyboard
+returns-then-is_keyboard c =
     let devices = c.args.devices.now in
     let n = c.args.keyboard in
     let i = c.loop-i.i in
@@ -62,8 +62,8 @@ returns-then-is-keyboard c =
       zero-le,
       c.loop-i-test.true,
       (λ d. at_default devices i x d (λ row. pending_lists n row ≡ true) c.loop-i-test.true
-          (as_listed n (get_or devices i x) true c.if-is-pending.ensures
+          (as_listed n (get_or devices i x) true c.if-is_pending.ensures
           (at_read devices (λ row. lists (keyboard_of n) row.list ≡ true) i y c.loop-i-test.true c.index-devices-i-in-loop-kind.is
-          (keyboard_listed n (get_or every_capability c.loop-kind.kind-index Pointer) y.list c.if-is-keyboard.ensures) x))),
+          (keyboard_listed n (get_or every_capability c.loop-kind.kind-index Pointer) y.list c.if-is_keyboard.ensures) x))),
       c.loop-i.invariant,
     )

@@ -6,5 +6,5 @@ use Rattle.converter.proofs.convert.EiEventConverter.bind_capabilities.Goals as 
 
 pub returns : goal.returns
 returns g c =
-    let k = c.bind-seat.ensures in
+    let k = c.bind_seat.ensures in
     record { outcome = k; law = goes_on (view g.H.Host.reading g.H.Host.notes g.H.Host.spare c.args.self.now.host) _ (model c.args.self.now) _ _ _ (ap answer_of k.answer) refl k.left }

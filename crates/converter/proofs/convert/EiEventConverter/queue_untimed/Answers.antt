@@ -11,9 +11,9 @@ returns g c =
     let m = model c.args.self.now in
     let d = c.args.device in
     let e = c.args.event in
-    let t = c.frame-time-time.result in
+    let t = c.frame_time-time.result in
     record {
       answer = refl;
-      left = c.queue-untimed.ensures ∙ (ap (λ (k : Model). with_store (queue_framed (frame_of d k.serial t) e k.store) k) c.frame-time-time.ensures.left ∙ (ap (λ u. with_store (queue_framed (frame_of d m.serial u) e m.store) m) c.frame-time-time.ensures.time ∙ ap (λ s. with_store s m) (forced_time d m.serial (g.H.Host.reading c.args.self.now.host) e m.store)));
-      asked = c.frame-time-time.ensures.asked;
+      left = c.queue_untimed.ensures ∙ (ap (λ (k : Model). with_store (queue_framed (frame_of d k.serial t) e k.store) k) c.frame_time-time.ensures.left ∙ (ap (λ u. with_store (queue_framed (frame_of d m.serial u) e m.store) m) c.frame_time-time.ensures.time ∙ ap (λ s. with_store s m) (forced_time d m.serial (g.H.Host.reading c.args.self.now.host) e m.store)));
+      asked = c.frame_time-time.ensures.asked;
     }

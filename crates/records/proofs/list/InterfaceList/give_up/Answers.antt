@@ -1,4 +1,4 @@
-use Rattle.std.proofs.Common.{get_or, set, None, sym, ap, ◌∙◌, arith}
+use Rattle.std.proofs.Common.{get_or, set, None, ap, ◌∙◌, arith}
 use Rattle.std.proofs.lemmas.List.{take_all}
 use Rattle.records.proofs.Listing.{same_list, disowned_more}
 use Rattle.records.specs.Listing.{disowned_entry, disowned_entries, given_up}

@@ -1,4 +1,4 @@
-use Rattle.std.proofs.Common.{sym, refl, ap, arith}
+use Rattle.std.proofs.Common.{sym, refl, arith}
 use Rattle.std.proofs.lemmas.List.{set_past}
 use Rattle.records.proofs.Places.{same_regions}
 use Rattle.records.specs.Places.{with_region}

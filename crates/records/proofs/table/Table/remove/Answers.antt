@@ -6,5 +6,5 @@ use Rattle.records.proofs.table.Table.remove.Goals as goal
 pub returns-in-Some : goal.returns-in-Some
 returns-in-Some g c = c.remove.ensures.items ∙ sym (without_found _ (rows_of c.args.self.now) c.in-Some.i c.in-Some.ensures)
 
-pub returns-in-default : goal.returns-in-default
-returns-in-default g c = sym (without_none _ (rows_of c.args.self.now) c.in-default.ensures)
+pub returns-in_default : goal.returns-in_default
+returns-in_default g c = sym (without_none _ (rows_of c.args.self.now) c.in_default.ensures)

@@ -8,7 +8,7 @@ use Rattle.store.proofs.kept.EventStore.names.Goals as goal
 
 pub loop-event-init : goal.loop-event-init
 unfolding names contents
-loop-event-init c = (tt, tt, ap (λ l. some (filter (named c.args.handle) l)) (ap deque_iter_rest c.into-iter-event-iterator.ensures.into-iter-gives ∙ c.iter-event-items.ensures.rest))
+loop-event-init c = (tt, tt, ap (λ l. some (filter (named c.args.handle) l)) (ap deque_iter_rest c.into_iter-event-iterator.ensures.into_iter_gives ∙ c.iter-event-items.ensures.rest))
 
 pub returns-then-handle : goal.returns-then-handle
 unfolding named

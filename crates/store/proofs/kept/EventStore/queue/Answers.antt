@@ -11,15 +11,15 @@ returns-then-not-fits c =
     let e = sym c.if-not-fits.ensures in
     record { answer = sym (ap done_if e); after = sym (cond-false (fits 1 (contents c.args.self.now)) _ _ e) }
 
-pub push-back-reserved-requires : goal.push-back-reserved-requires
-push-back-reserved-requires c = omega (arith, held_is c.args.self.now, fits_true 1 (contents c.args.self.now) (sym c.if-not-fits.ensures))
+pub push_back_reserved-requires : goal.push_back_reserved-requires
+push_back_reserved-requires c = omega (arith, held_is c.args.self.now, fits_true 1 (contents c.args.self.now) (sym c.if-not-fits.ensures))
 
-pub invariant-of-self : goal.invariant-of-self
-invariant-of-self c =
-    (omega (arith, held_is c.args.self.now, fits_true 1 (contents c.args.self.now) (sym c.if-not-fits.ensures)), (omega arith, (omega arith, tt)))
+pub invariant_of-self : goal.invariant_of-self
+invariant_of-self c =
+    record { bounded = omega (arith, held_is c.args.self.now, fits_true 1 (contents c.args.self.now) (sym c.if-not-fits.ensures)); pending_room = omega arith; queued_room = omega arith }
 
 pub returns : goal.returns
 unfolding queue added contents
 returns c =
     let e = sym c.if-not-fits.ensures in
-    record { answer = sym (ap done_if e); after = same_contents refl c.push-back-reserved.ensures.items ∙ sym (cond-true (fits 1 (contents c.args.self.now)) _ _ e) }
+    record { answer = sym (ap done_if e); after = same_contents refl c.push_back_reserved.ensures.items ∙ sym (cond-true (fits 1 (contents c.args.self.now)) _ _ e) }

@@ -2,12 +2,12 @@ use Rattle.std.proofs.Common.{[], ◌∷◌, ◌++◌, map, length, take, deque_
 use Rattle.std.proofs.lemmas.List.{take_all, length-append, length-map, append_assoc}
 use Rattle.ei.specs.Events.{at_time}
 use Rattle.store.specs.Moves.{of}
-use Rattle.store.proofs.Filters.{kept_before, batch-more-yes, batch-more-no}
+use Rattle.store.proofs.Filters.{kept_before, batch_more_yes, batch_more_no}
 use Rattle.store.proofs.kept.pending.queue_at.Goals as goal
 use Rattle.store.proofs.kept.pending.queue_at.Goals.{then-tells, else-tells}
 
-pub push-back-reserved-requires : goal.push-back-reserved-requires
-push-back-reserved-requires c =
+pub push_back_reserved-requires : goal.push_back_reserved-requires
+push_back_reserved-requires c =
     let i = c.loop-event.event-index in
     let es = c.args.events.now in
     let p = of c.args.device in
@@ -30,15 +30,15 @@ loop-event-preserved c =
     elim c.if-tells.branch [
       | then-tells w ↦ (
         ap deque_items w.queued-is
-            ∙ (w.push-back-reserved.ensures.items
+            ∙ (w.push_back_reserved.ensures.items
             ∙ (ap (λ l. l ++ (w.at_time.result ∷ [])) c.loop-event.invariant.0
             ∙ (append_assoc old (map f (filter p (take i es))) (w.at_time.result ∷ [])
             ∙ (ap (λ x. old ++ (map f (filter p (take i es)) ++ (x ∷ []))) w.at_time.ensures
-            ∙ ap (λ l. old ++ l) (sym (batch-more-yes p f es i e c.loop-event-test.true c.event-item.is (sym w.if-tells.ensures))))))),
-        ap deque_capacity w.queued-is ∙ (w.push-back-reserved.ensures.capacity ∙ c.loop-event.invariant.1),
+            ∙ ap (λ l. old ++ l) (sym (batch_more_yes p f es i e c.loop-event-test.true c.event-item.is (sym w.if-tells.ensures))))))),
+        ap deque_capacity w.queued-is ∙ (w.push_back_reserved.ensures.capacity ∙ c.loop-event.invariant.1),
       )
       | else-tells w ↦ (
-        ap deque_items w.queued-is ∙ (c.loop-event.invariant.0 ∙ ap (λ l. old ++ l) (sym (batch-more-no p f es i e c.loop-event-test.true c.event-item.is (sym w.if-tells.ensures)))),
+        ap deque_items w.queued-is ∙ (c.loop-event.invariant.0 ∙ ap (λ l. old ++ l) (sym (batch_more_no p f es i e c.loop-event-test.true c.event-item.is (sym w.if-tells.ensures)))),
         ap deque_capacity w.queued-is ∙ c.loop-event.invariant.1,
       )
     ]

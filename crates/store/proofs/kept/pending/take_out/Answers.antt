@@ -4,11 +4,11 @@ use Rattle.store.specs.Moves.{not_of}
 use Rattle.store.proofs.kept.pending.take_out.Goals as goal
 use Rattle.store.proofs.kept.pending.take_out.Goals.{then-not-tells, else-not-tells}
 
-pub index-mut-requires : goal.index-mut-requires
-index-mut-requires c = omega (arith, c.loop-i.invariant.0.behind, c.loop-i.invariant.0.long, c.loop-i.events.ok.0, c.args.events.now.ok.0)
+pub index_mut-requires : goal.index_mut-requires
+index_mut-requires c = omega (arith, c.loop-i.invariant.0.behind, c.loop-i.invariant.0.long, c.loop-i.events.ok.0, c.args.events.now.ok.0)
 
-pub overflow-add-others : goal.overflow-add-others
-overflow-add-others c = omega (arith, c.loop-i.invariant.0.behind)
+pub overflow_add-others : goal.overflow_add-others
+overflow_add-others c = omega (arith, c.loop-i.invariant.0.behind)
 
 pub loop-i-preserved : goal.loop-i-preserved
 unfolding not_of

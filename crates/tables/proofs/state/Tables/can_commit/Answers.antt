@@ -2,10 +2,10 @@ use Rattle.std.proofs.Common.{rules}
 use Rattle.store.specs.Moves.{can_commit}
 use Rattle.tables.proofs.state.Tables.can_commit.Goals as goal
 
-pub returns-then-has-pending : goal.returns-then-has-pending
+pub returns-then-has_pending : goal.returns-then-has_pending
 unfolding can_commit
-returns-then-has-pending c = search rules
+returns-then-has_pending c = search rules
 
-pub returns-else-has-pending : goal.returns-else-has-pending
+pub returns-else-has_pending : goal.returns-else-has_pending
 unfolding can_commit
-returns-else-has-pending c = search rules
+returns-else-has_pending c = search rules

@@ -19,7 +19,7 @@ returns c v =
     let n = c.args.device in
     let row = c.in-Some.row.now in
     let h = row.head.handle in
-    let ample = ap (λ b. refusal (of_places b)) (sym c.lacks-places.ensures) ∙ passed _ tt _ c.in-ok-check.ensures in
-    let rows = c.step.ensures ∙ ap (device_steps n Live (steps.Take stages.Destroyed)) (c.step-all.ensures ∙ ap (all_step (steps.GiveUp row.list)) c.remove-2.ensures) in
+    let ample = ap (λ b. refusal (of_places b)) (sym c.lacks_places.ensures) ∙ passed _ tt _ c.in_ok-check.ensures in
+    let rows = c.step.ensures ∙ ap (device_steps n Live (steps.Take stages.Destroyed)) (c.step_all.ensures ∙ ap (all_step (steps.GiveUp row.list)) c.remove-2.ensures) in
     ap (λ l. untimed_queued v h (events.DeviceRemoved (record { device = h })) (with_serial c.args.serial (with_devices l m))) rows
     ∙ sym (at_some_is (first (device_at n Live) m.devices) row _ _ (sym c.in-Some.ensures) ∙ unless_none _ m _ ample)

@@ -19,7 +19,7 @@ returns c v =
     let n = c.args.device in
     let row = c.in-Some.row.now in
     let h = m.handles + 1 in
-    let ample = ap (λ b. refusal (of_places_and_handles b (no_handle m))) (sym c.lacks-places.ensures) ∙ passed _ tt _ c.in-ok-check.ensures in
-    let rows = c.step-2.ensures ∙ ap (device_steps n Pending (steps.Take (stages.Done h))) (c.step.ensures ∙ ap (device_steps n Live (steps.Take (stages.Done h))) c.step-all.ensures) in
+    let ample = ap (λ b. refusal (of_places_and_handles b (no_handle m))) (sym c.lacks_places.ensures) ∙ passed _ tt _ c.in_ok-check.ensures in
+    let rows = c.step-2.ensures ∙ ap (device_steps n Pending (steps.Take (stages.Done h))) (c.step.ensures ∙ ap (device_steps n Live (steps.Take (stages.Done h))) c.step_all.ensures) in
     ap (λ l. untimed_queued v h (events.DeviceAdded (record { device = h })) (with_handles h (with_devices l m))) rows
-    ∙ sym (at_some_is (first (device_at n Pending) m.devices) row _ _ (sym c.in-Some.ensures) ∙ (at_some_is row.description.device_type c.in-Some-device-type.field-0 _ _ c.in-Some-device-type.is ∙ unless_none _ m _ ample))
+    ∙ sym (at_some_is (first (device_at n Pending) m.devices) row _ _ (sym c.in-Some.ensures) ∙ (at_some_is row.description.device_type c.in-Some-device_type.field-0 _ _ c.in-Some-device_type.is ∙ unless_none _ m _ ample))

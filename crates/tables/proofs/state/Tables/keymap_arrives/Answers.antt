@@ -9,8 +9,8 @@ use Rattle.tables.specs.Model.{refused, with_devices}
 use Rattle.tables.specs.Shown.{model_of}
 use Rattle.tables.proofs.state.Tables.keymap_arrives.Goals as goal
 
-pub returns-else-step-lister : goal.returns-else-step-lister
-returns-else-step-lister c v =
+pub returns-else-step_lister : goal.returns-else-step_lister
+returns-else-step_lister c v =
     let m = model_of c.args.self.now in
-    let none = sym c.step-lister.ensures.answer ∙ c.if-step-lister.false in
-    ap (λ rows. refused refusals.DeviceSetupEventAfterDone (with_devices rows m)) (c.step-lister.ensures.after ∙ changed_never (pending_lists c.args.keyboard) _ (rows_of c.args.self.now.devices) none) ∙ sym (cond-false _ _ _ none)
+    let none = sym c.step_lister.ensures.answer ∙ c.if-step_lister.false in
+    ap (λ rows. refused refusals.DeviceSetupEventAfterDone (with_devices rows m)) (c.step_lister.ensures.after ∙ changed_never (pending_lists c.args.keyboard) _ (rows_of c.args.self.now.devices) none) ∙ sym (cond-false _ _ _ none)

@@ -5,8 +5,8 @@ returns c =
     λ i. record {
       serial = c.args.serial;
       handles = 0;
-      seats = c.in-ok-seats.ensures i;
-      devices = c.in-ok-devices.ensures i;
-      callbacks = c.in-ok-callbacks.ensures i;
-      store = c.in-ok-store.ensures i;
+      seats = c.in_ok-seats.ensures i;
+      devices = c.in_ok-devices.ensures i;
+      callbacks = c.in_ok-callbacks.ensures i;
+      store = c.in_ok-store.ensures i;
     }
