@@ -1,5 +1,5 @@
 -- What is known of a line that was read.
-use Rattle.std.specs.Prelude.{ℕ, ◌^◌, ◌<◌}
+use Rattle.std.specs.Prelude.{◌^◌, ◌<◌}
 use Rattle.script.specs.declared.lines.Line.{Line}
 use Rattle.script.specs.declared.lines.Line.TheVariants.{Skip, Start, Reading, Take, Next, Callback, Bind, RetireSeat, RetireDevice, Event}
 

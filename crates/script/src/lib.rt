@@ -1,4 +1,6 @@
 // The lines of a session, read as the calls that they ask for.
+#![tactic(auto)]
+
 mod events;
 mod fields;
 mod lines;

@@ -1,5 +1,5 @@
 -- How an event is written: its kind, its handle and its time, and then its other fields, with one space between.
-use Rattle.std.specs.Prelude.{ℕ, ◌/◌, ◌%◌, Bool, cond, List, [], ◌∷◌, ◌++◌, ℤ, Some, None, codes, decimal, Option, to_bits, Float}
+use Rattle.std.specs.Prelude.{ℕ, ◌/◌, ◌%◌, Bool, cond, List, [], ◌++◌, Some, None, codes, decimal, Option, to_bits, Float}
 use Rattle.std.specs.Float.{binary32}
 use Rattle.std.specs.Fmt.{signed_decimal}
 use Rattle.ei.specs.Events.{kind_of, handle_of, time_of}

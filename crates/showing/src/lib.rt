@@ -1,4 +1,6 @@
 // Events as lines of text: what the converter hands out, as it is printed.
+#![tactic(auto)]
+
 ghost use Rattle.std.specs.Prelude.{Some};
 ghost use Rattle.showing.specs.Showing.{event_line, explained, fields_of, flag, float_bits};
 

@@ -1,5 +1,5 @@
 -- How the rules decide once their tests are known.
-use Rattle.std.proofs.Common.{◌≡◌, Bool, true, false, cond, List, [], ◌∷◌, is_some, Some, None, Ok, Err, Option, Result, sym, refl, ap, ◌∙◌}
+use Rattle.std.proofs.Common.{◌≡◌, Bool, true, false, cond, List, [], ◌∷◌, is_some, Some, None, Ok, Err, Option, Result, sym, refl, ap}
 use Rattle.std.proofs.lemmas.Bool.{true≢false}
 use Rattle.ei.specs.declared.error.EventError.{EventError}
 use Rattle.records.specs.Rows.{any, changed, first}

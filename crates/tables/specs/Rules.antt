@@ -1,5 +1,5 @@
 -- What each call does: its faults in the order of the original, then what it is short of, then its effect.
-use Rattle.std.specs.Prelude.{ℕ, ◌+◌, Bool, true, false, cond, not, List, [], ◌∷◌, ◌++◌, map, length, is_some, Some, None, Option, ◌==◌, nat_eq, nat_le, nat_lt}
+use Rattle.std.specs.Prelude.{ℕ, ◌+◌, Bool, true, false, cond, not, List, [], ◌∷◌, ◌++◌, map, length, Some, None, Option, ◌==◌, nat_eq, nat_le, nat_lt}
 use Rattle.std.specs.Option.{option_map}
 use Rattle.ei.specs.Capabilities.{mask_of}
 use Rattle.ei.specs.Texts.{text_of}
@@ -8,7 +8,6 @@ use Rattle.ei.specs.declared.capability.DeviceCapability.TheVariants as kinds
 use Rattle.ei.specs.declared.device.Keymap.{Keymap}
 use Rattle.ei.specs.declared.device.Region.{Region}
 use Rattle.ei.specs.declared.enums.DisconnectReason.{DisconnectReason}
-use Rattle.ei.specs.declared.error.EventError.{EventError}
 use Rattle.ei.specs.declared.error.EventError.TheVariants as refusals
 use Rattle.ei.specs.declared.event.EiEvent.{EiEvent}
 use Rattle.ei.specs.declared.event.EiEvent.TheVariants as events
@@ -36,7 +35,7 @@ use Rattle.records.specs.declared.seat.SeatStep.TheVariants as seat_stages
 use Rattle.records.specs.declared.standing.Standing.{Standing}
 use Rattle.records.specs.declared.standing.Standing.TheVariants.{Pending, Live, Detached}
 use Rattle.store.specs.Moves.{Contents, has_pending, fits, can_hold, hold, can_commit, commit, queue, queue_framed, names, discard}
-use Rattle.tables.specs.Model.{Model, View, Asked, nothing_asked, time_asked, note_asked, Outcome, with_serial, with_handles, with_seats, with_devices, with_callbacks, with_store, refused, done, asking, at_some, unless}
+use Rattle.tables.specs.Model.{Model, View, nothing_asked, time_asked, note_asked, Outcome, with_serial, with_handles, with_seats, with_devices, with_callbacks, with_store, refused, done, asking, at_some, unless}
 use Rattle.tables.specs.Refusal.{too_long, some_too_long, refusal, ample, of_text, of_regions, of_rows, of_notes, of_places, of_places_and_handles}
 
 -- How much is held.

@@ -1,11 +1,9 @@
 use Rattle.std.proofs.Common.{sym, ap, ◌∙◌}
-use Rattle.ei.specs.declared.error.EventError.TheVariants as refusals
 use Rattle.ei.specs.declared.event.EiEvent.TheVariants as events
 use Rattle.records.specs.Rows.{first}
-use Rattle.records.specs.Tables.{rows_of}
 use Rattle.records.specs.declared.device.DeviceStep.TheVariants as steps
 use Rattle.records.specs.declared.device.Stage.TheVariants as stages
-use Rattle.records.specs.declared.standing.Standing.TheVariants.{Pending, Live}
+use Rattle.records.specs.declared.standing.Standing.TheVariants.{Live}
 use Rattle.tables.proofs.Decide.{passed, unless_none, at_some_is}
 use Rattle.tables.specs.Model.{with_serial, with_devices}
 use Rattle.tables.specs.Refusal.{refusal, of_places}

@@ -1,6 +1,5 @@
 use Rattle.std.proofs.Common.{sym, ap, ◌∙◌}
 use Rattle.std.proofs.lemmas.Bool.{cond-false}
-use Rattle.records.specs.Devices.{device_stepped}
 use Rattle.records.specs.Owners.{pending_lists}
 use Rattle.records.specs.Tables.{rows_of}
 use Rattle.ei.specs.declared.error.EventError.TheVariants as refusals

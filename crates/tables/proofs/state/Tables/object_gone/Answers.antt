@@ -1,8 +1,7 @@
-use Rattle.std.proofs.Common.{◌≡◌, false, sym, ap, ◌∙◌}
+use Rattle.std.proofs.Common.{sym, ap, ◌∙◌}
 use Rattle.std.proofs.lemmas.Bool.{cond-true, cond-false}
 use Rattle.ei.specs.declared.error.EventError.TheVariants as refusals
 use Rattle.records.specs.Owners.{owns_it}
-use Rattle.records.specs.Tables.{rows_of}
 use Rattle.tables.proofs.Decide.{changed_never}
 use Rattle.tables.specs.Model.{done, refused, with_devices, with_serial}
 use Rattle.tables.specs.Shown.{model_of}

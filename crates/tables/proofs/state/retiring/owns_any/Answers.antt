@@ -1,5 +1,4 @@
-use Rattle.std.proofs.Common.{◌≡◌, ℕ, ◌<◌, false, List, length, get_or, None, Option, sym, ap, ◌∙◌, arith}
-use Rattle.records.specs.declared.list.Entry.{Entry}
+use Rattle.std.proofs.Common.{◌≡◌, false, get_or, None, sym, ap, ◌∙◌, arith}
 use Rattle.tables.proofs.Left.{any_left_more, any_left_here, any_left_none, is_owned, owns_any_is, in_order}
 use Rattle.tables.proofs.state.retiring.owns_any.Goals as goal
 use Rattle.tables.proofs.state.retiring.owns_any.Goals.{in-Some+else-entry, in_default}
