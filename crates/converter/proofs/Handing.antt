@@ -1,5 +1,5 @@
 -- What the calls hand out and where they begin, for the law.
-use Rattle.std.proofs.Common.{◌≡◌, ℕ, Bool, true, false, cond, [], is_some, IfOk, Some, None, Ok, Err, Option, Result, unwrap_or, sym, refl, ap, ◌∙◌, subst, MatchResult}
+use Rattle.std.proofs.Common.{◌≡◌, ℕ, Bool, cond, [], is_some, IfOk, Some, None, Ok, Err, Option, Result, unwrap_or, sym, refl, ap, ◌∙◌, subst, MatchResult}
 use Rattle.ei.specs.declared.proto.Event.{Event}
 use Rattle.ei.specs.declared.proto.Event.TheVariants as event
 use Rattle.ei.specs.declared.proto.ConnectionEvent.TheVariants as in-Connection

@@ -1,5 +1,5 @@
 -- What a call of the converter promises: its answer, what the converter holds after it, and what became of the host.
-use Rattle.std.specs.Prelude.{◌≡◌, ℕ, Bool, List, Ok, Err, Option, Result, nat_lt}
+use Rattle.std.specs.Prelude.{◌≡◌, ℕ, List, Ok, Err, Option, Result, nat_lt}
 use Rattle.std.specs.Option.{option_map}
 use Rattle.ei.specs.declared.error.EventError.{EventError}
 use Rattle.host.specs.Leaving.{Leaves}

@@ -1,2 +1,4 @@
 // The converter: low-level events in, kept events out.
+#![tactic(auto)]
+
 pub mod convert;

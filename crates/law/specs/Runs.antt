@@ -1,5 +1,5 @@
 -- Runs: a converter that began new and that nothing but calls has changed, over any host and whatever the host did between the calls.
-use Rattle.std.specs.Prelude.{ℕ, List, [], ◌∷◌, ◌++◌, Some, None, Option}
+use Rattle.std.specs.Prelude.{ℕ, List, [], ◌∷◌, ◌++◌, None, Option}
 use Rattle.ei.specs.Refusals.{answer_of}
 use Rattle.ei.specs.declared.event.EiEvent.{EiEvent}
 use Rattle.store.specs.Moves.{given, pending_for}

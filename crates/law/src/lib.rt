@@ -1,4 +1,6 @@
 // The record law: what holds of every session, whatever was called and answered.
+#![tactic(auto)]
+
 ghost use Rattle.law.specs.Devices.{TypedLaw, RetiredLaw, NeverNamedAgain};
 ghost use Rattle.law.specs.Drain.{DrainLaw};
 ghost use Rattle.law.specs.Runs.{RecordLaw};
