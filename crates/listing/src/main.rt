@@ -1,4 +1,6 @@
 // Runs a fixed session and prints a line for each event that it gives: its kind, its handle and its time.
+#![tactic(auto)]
+
 use anyhow::anyhow;
 use converter::convert::EiEventConverter;
 use ei::capability::DeviceCapability;

@@ -1,4 +1,6 @@
 // Runs a session file from standard input over a converter and a kept host, and prints what can be seen of it.
+#![tactic(auto)]
+
 use anyhow::anyhow;
 use converter::convert::EiEventConverter;
 use ei::error::EventError;

@@ -1,4 +1,6 @@
 // Sessions with a converter: worked ones, which are proved, and tests.
+#![tactic(auto)]
+
 pub mod event;
 pub mod line;
 pub mod samples;

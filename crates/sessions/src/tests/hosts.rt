@@ -1,28 +1,29 @@
 // What the three hosts answer, call by call.
 use host::{Host, KeptHost, Note, SteadyHost, TapeHost};
+use std::process::Abort;
 use std::test::Fail;
 
 // Leaves 64 notes and sees that each is taken.
-fn fill<H: Host>(host: &mut H) -> Result<(), Fail> {
+fn fill<H: Host>(rt: &impl Abort, host: &mut H) {
     for data in 0..64u64 {
-        check(host.pong(7, data)).note("a place is to spare")?;
+        assert!(rt; host.pong(7, data), "a place is to spare");
     }
-    Ok(())
 }
 
 #[test]
 fn sixty_four_notes_wait(rt: HostRuntime) -> Result<(), Fail> {
     let mut host = KeptHost::new(rt.alloc())?;
-    fill(&mut host)?;
-    check(!host.pong(7, 64)).note("the 65th pong is refused")?;
-    check(!host.run(7, 64)).note("the 65th run is refused")?;
-    check(!host.bind(7, 64)).note("the 65th bind is refused")
+    fill(&rt, &mut host);
+    assert!(rt; !host.pong(7, 64), "the 65th pong is refused");
+    assert!(rt; !host.run(7, 64), "the 65th run is refused");
+    assert!(rt; !host.bind(7, 64), "the 65th bind is refused");
+    Ok(())
 }
 
 #[test]
 fn a_taken_note_gives_its_place_back(rt: HostRuntime) -> Result<(), Fail> {
     let mut host = KeptHost::new(rt.alloc())?;
-    fill(&mut host)?;
+    fill(&rt, &mut host);
     assert_eq!(rt; host.take_note(), Some(Note::Pong { ping: 7, data: 0 }));
     assert!(rt; host.bind(3, 5));
     assert!(rt; !host.bind(3, 6));
@@ -37,11 +38,12 @@ fn a_taken_note_gives_its_place_back(rt: HostRuntime) -> Result<(), Fail> {
 #[test]
 fn a_tape_host_keeps_notes_too(rt: HostRuntime) -> Result<(), Fail> {
     let mut host = TapeHost::new(rt.alloc(), &[4, 9])?;
-    fill(&mut host)?;
+    fill(&rt, &mut host);
     assert!(rt; !host.run(1, 2));
     assert_eq!(rt; host.take_note(), Some(Note::Pong { ping: 7, data: 0 }));
     assert!(rt; host.run(1, 2));
-    check_eq(host.now(), 4).note("notes do not move the tape")
+    assert_eq!(rt; host.now(), 4, "notes do not move the tape");
+    Ok(())
 }
 
 #[test]
