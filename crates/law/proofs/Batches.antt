@@ -1,7 +1,7 @@
 -- What a frame queues: stamped, framed, at the frame's time, and the pending events of its device in order.
 use Rattle.std.proofs.Common.{◌≡◌, ℕ, true, false, eqb, leb, List, [], ◌∷◌, ◌++◌, map, Some, sym, refl, ap, ◌∙◌}
 use Rattle.std.proofs.lemmas.Bool.{cond-true, cond-false, both_ways, eq-eqb, false≢true}
-use Rattle.std.specs.List.{AllByRecursion as All}
+use Rattle.std.specs.List.{AllByRecursion}
 use Rattle.ei.specs.Events.{device_of, timed, is_frame, time_of, at_time}
 use Rattle.ei.specs.declared.event.EiEvent.{EiEvent}
 use Rattle.ei.specs.declared.event.EiEvent.TheVariants as event
@@ -35,29 +35,29 @@ module _ (f : Frame) where
     whose h = cond-true (timed (at_time f.time e)) _ _ still_timed ∙ ap (λ o. holds o h) still_its
 
   -- the next frame of the device is this one
-  next_in_run : (es : List EiEvent) → All (TimedFor f.device) es → next_frame (Some f.device) (run f es) ≡ Some f.time
+  next_in_run : (es : List EiEvent) → AllByRecursion (TimedFor f.device) es → next_frame (Some f.device) (run f es) ≡ Some f.time
   next_in_run [] a = cond-true (eqb f.device f.device) _ _ (eq-eqb f.device f.device refl)
   next_in_run (e ∷ es) a = cond-false _ _ _ (cond-false (is_frame (at_time f.time e)) _ _ (no_frame e a.0)) ∙ next_in_run es a.1
 
-  stamped_run : (es : List EiEvent) → All (TimedFor f.device) es → Stamped (run f es)
+  stamped_run : (es : List EiEvent) → AllByRecursion (TimedFor f.device) es → Stamped (run f es)
   stamped_run [] a = (λ t. absurd (false≢true t), tt)
   stamped_run (e ∷ es) a =
       (λ _. ap (λ d. next_frame d (run f es)) (still_its e a.0) ∙ (next_in_run es a.1 ∙ sym (ap (λ n. Some n) ((timing f.time e).its a.0.0))), stamped_run es a.1)
 
-  framed_run : (e : EiEvent) (es : List EiEvent) → TimedFor f.device e → All (TimedFor f.device) es → FramedAfter (at_time f.time e) (run f es)
+  framed_run : (e : EiEvent) (es : List EiEvent) → TimedFor f.device e → AllByRecursion (TimedFor f.device) es → FramedAfter (at_time f.time e) (run f es)
   framed_run e [] m a = (λ _. (still_timed e m, still_its e m), tt)
   framed_run e (x ∷ es) m a = (λ y. absurd (both_ways (is_frame (at_time f.time x)) (no_frame x a.0) y), framed_run x es a.0 a.1)
 
-  times_run : (t : ℕ) → f.time ≡ t → (es : List EiEvent) → All (TimedFor f.device) es → All (λ x. is_frame x ≡ true → time_of x ≡ t) (run f es)
+  times_run : (t : ℕ) → f.time ≡ t → (es : List EiEvent) → AllByRecursion (TimedFor f.device) es → AllByRecursion (λ x. is_frame x ≡ true → time_of x ≡ t) (run f es)
   times_run t e [] a = (λ _. e, tt)
   times_run t e (x ∷ es) a = (λ y. absurd (both_ways (is_frame (at_time f.time x)) (no_frame x a.0) y), times_run t e es a.1)
 
-  own_run : (h : ℕ) → eqb f.device h ≡ true → (es : List EiEvent) → All (TimedFor f.device) es → timed_of h (run f es) ≡ es
+  own_run : (h : ℕ) → eqb f.device h ≡ true → (es : List EiEvent) → AllByRecursion (TimedFor f.device) es → timed_of h (run f es) ≡ es
   own_run h y [] a = refl
   own_run h y (e ∷ es) a =
       ap (map (at_time 0)) (cond-true (timed_of_handle h (at_time f.time e)) _ _ (whose e a.0 h ∙ y)) ∙ (ap (λ x. x ∷ timed_of h (run f es)) (as_pending e a.0) ∙ ap (λ l. e ∷ l) (own_run h y es a.1))
 
-  other_run : (h : ℕ) → eqb f.device h ≡ false → (es : List EiEvent) → All (TimedFor f.device) es → timed_of h (run f es) ≡ []
+  other_run : (h : ℕ) → eqb f.device h ≡ false → (es : List EiEvent) → AllByRecursion (TimedFor f.device) es → timed_of h (run f es) ≡ []
   other_run h n [] a = refl
   other_run h n (e ∷ es) a =
       ap (map (at_time 0)) (cond-false (timed_of_handle h (at_time f.time e)) _ _ (whose e a.0 h ∙ n)) ∙ other_run h n es a.1
@@ -66,11 +66,11 @@ module _ (f : Frame) where
 pub record Batched (f : Frame) (t : ℕ) (es added : List EiEvent) : Type 0 where
   pub stamped : Stamped added
   pub framed : Framed added
-  pub times : All (λ x. is_frame x ≡ true → time_of x ≡ t) added
+  pub times : AllByRecursion (λ x. is_frame x ≡ true → time_of x ≡ t) added
   pub own : (h : ℕ) → eqb f.device h ≡ true → timed_of h added ≡ es
   pub others : (h : ℕ) → eqb f.device h ≡ false → timed_of h added ≡ []
 
-pub batched : (f : Frame) (t : ℕ) → f.time ≡ t → (es : List EiEvent) → All (TimedFor f.device) es → Batched f t es (batch f es)
+pub batched : (f : Frame) (t : ℕ) → f.time ≡ t → (es : List EiEvent) → AllByRecursion (TimedFor f.device) es → Batched f t es (batch f es)
 unfolding batch
 batched f t e [] a = record { stamped = tt; framed = tt; times = tt; own = λ _ _. refl; others = λ _ _. refl }
 batched f t e (x ∷ es) a =

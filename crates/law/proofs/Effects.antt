@@ -3,7 +3,7 @@ use Rattle.std.proofs.Common.{◌≡◌, ℕ, true, false, eqb, List, [], ◌++�
 use Rattle.std.proofs.ByRecursion.{All-append, All-weaker}
 use Rattle.std.proofs.lemmas.List.{append-nil}
 use Rattle.std.proofs.lemmas.Bool.{cases_Bool, both_ways, eqb-true, eqb-false, ne_eqb}
-use Rattle.std.specs.List.{AllByRecursion as All}
+use Rattle.std.specs.List.{AllByRecursion}
 use Rattle.ei.specs.Events.{is_frame, time_of}
 use Rattle.ei.specs.declared.event.EiEvent.{EiEvent}
 use Rattle.ei.specs.declared.event.Frame.{Frame}
@@ -18,7 +18,7 @@ use Rattle.law.proofs.Steps.{listed, Fate, settled, awaits, Step}
 use Rattle.law.proofs.Tidy.{TidyStore, Unstamped, pending_timed, tidy_others}
 
 -- plain events have no frame whose time is to be told
-times_plain : (t : ℕ) (q : List EiEvent) → All Plain q → All (λ x. is_frame x ≡ true → time_of x ≡ t) q
+times_plain : (t : ℕ) (q : List EiEvent) → AllByRecursion Plain q → AllByRecursion (λ x. is_frame x ≡ true → time_of x ≡ t) q
 times_plain t q a = All-weaker Plain (λ x. is_frame x ≡ true → time_of x ≡ t) (λ x p y. absurd (both_ways (is_frame x) p.1 y)) q a
 
 -- What waits, once the events of one device are gone.
@@ -31,7 +31,7 @@ pub others_stay : (h k : ℕ) (before after : Contents) → after.pending ≡ ot
 unfolding pending_for others
 others_stay h k before after p n = ap (filter (of k)) p ∙ others_same h k (λ e. eqb-false h k n (sym e)) before.pending
 
-module _ (b : Book) (e : Entry) (before after : Contents) (q : List EiEvent) (plain : All Plain q) where
+module _ (b : Book) (e : Entry) (before after : Contents) (q : List EiEvent) (plain : AllByRecursion Plain q) where
   pub free_step : before.queued ++ q ≡ listed e.given ++ after.queued → ((h : ℕ) → bound h b e ≡ false) → ((h : ℕ) → (booked b e.call e.answer).retired h ≡ false → pending_for h after ≡ pending_for h before ++ press h b e) → TidyStore after → Step b e before after
   free_step moves free waits tidy = record {
     added = q;
@@ -74,5 +74,5 @@ module _ (b : Book) (e : Entry) (before after : Contents) (q : List EiEvent) (pl
         times = All-append (λ x. is_frame x ≡ true → time_of x ≡ frame_time e) (batch f waited) q the_batch.times (times_plain (frame_time e) q plain);
         fate = λ h _. ⊎_elim (own_fate h) (other_fate h) (cases_Bool (eqb f.device h));
         retired = λ h r. only_batch h ∙ the_batch.others h (ne_eqb f.device h (λ s. both_ways (b.retired h) (ap b.retired (sym s) ∙ current) r));
-        tidy = subst (All Unstamped) (sym gone) (tidy_others f.device before tidy);
+        tidy = subst (AllByRecursion Unstamped) (sym gone) (tidy_others f.device before tidy);
       }

@@ -2,7 +2,7 @@
 use Rattle.std.proofs.Common.{◌≡◌, ℕ, ◌≤◌, Bool, true, false, List, Option, refl}
 use Rattle.std.proofs.lemmas.Bool.{both_ways}
 use Rattle.std.specs.Option.{option_map}
-use Rattle.std.specs.List.{AllByRecursion as All}
+use Rattle.std.specs.List.{AllByRecursion}
 use Rattle.ei.specs.declared.capability.DeviceCapability.{DeviceCapability}
 use Rattle.ei.specs.declared.object.Object.{Object}
 use Rattle.records.specs.Owners.{owns_it}
@@ -42,7 +42,7 @@ pub record Linked (b : Book) (handles : ℕ) (rows : List DeviceRow) : Type 0 wh
   pub one_live : (n : ℕ) → Lone (device_at n Live) rows
   pub one_handle : (h : ℕ) → Lone (device_by_handle h) rows
   pub one_owner : (o : Object) → Lone (owns_it o) rows
-  pub sound : All (Sound b.lists b.retired handles) rows
+  pub sound : AllByRecursion (Sound b.lists b.retired handles) rows
   pub was_given : (h : ℕ) → b.retired h ≡ true → h ≤ handles
 
 -- of a model only the devices and the last handle count

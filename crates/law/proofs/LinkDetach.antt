@@ -3,7 +3,7 @@ use Rattle.std.proofs.Common.{◌≡◌, ℕ, ◌≤◌, Bool, true, false, eqb,
 use Rattle.std.proofs.ByRecursion.{All-weaker}
 use Rattle.std.proofs.lemmas.Bool.{cond-true, cond-false, cases_Bool, both_ways, eqb-true, eq-eqb, cond_both}
 use Rattle.std.specs.Option.{option_map}
-use Rattle.std.specs.List.{AllZip, AllByRecursion as All}
+use Rattle.std.specs.List.{AllZip, AllByRecursion}
 use Rattle.ei.specs.declared.capability.DeviceCapability.{DeviceCapability}
 use Rattle.ei.specs.declared.object.Object.{Object}
 use Rattle.records.specs.Devices.{superseded, destroyed}
@@ -27,7 +27,7 @@ pub detach : (b : Book) (hs : ℕ) (xs : List DeviceRow) → Linked b hs xs → 
     → (lists : ℕ → DeviceCapability → Option ℕ)
     → ((o : Object) → b.owner o ≡ option_map handle_of (first (owns_it o) (changed (device_at n Live) f xs)))
     → ((o : Object) → AllZip (λ x y. owns_it o x ≡ false → owns_it o y ≡ false) xs (changed (device_at n Live) f xs))
-    → All (Sound lists b.retired hs) (changed (device_at n Live) f xs)
+    → AllByRecursion (Sound lists b.retired hs) (changed (device_at n Live) f xs)
     → Linked (with_lists lists (with_live (put b.live n None) b)) hs (changed (device_at n Live) f xs)
 detach b hs xs l n f heads lists owned fewer sound =
     let q : DeviceRow → Bool = device_at n Live in

@@ -3,7 +3,7 @@ use Rattle.std.proofs.Common.{◌≡◌, ℕ, ◌≤◌, Bool, true, false, cond
 use Rattle.std.proofs.ByRecursion.{All-weaker, All-map}
 use Rattle.std.proofs.lemmas.Bool.{cond-true, cond-false, cases_Bool, both_ways, eqb-true, cond_both}
 use Rattle.std.specs.Option.{option_map}
-use Rattle.std.specs.List.{AllZip, AllByRecursion as All}
+use Rattle.std.specs.List.{AllZip, AllByRecursion}
 use Rattle.ei.specs.declared.capability.DeviceCapability.{DeviceCapability}
 use Rattle.ei.specs.declared.object.Object.{Object}
 use Rattle.records.specs.Devices.{device_with_list, with_object}
@@ -38,7 +38,7 @@ pub relinked : (b : Book) (hs : ℕ) (xs ys : List DeviceRow) → Linked b hs xs
     → ((n : ℕ) → setup n ≡ option_map listing (first (device_at n Pending) ys))
     → ((o : Object) → owner o ≡ option_map handle_of (first (owns_it o) ys))
     → ((o : Object) → AllZip (λ x y. owns_it o x ≡ false → owns_it o y ≡ false) xs ys)
-    → All (Sound lists b.retired hs) ys
+    → AllByRecursion (Sound lists b.retired hs) ys
     → Linked (record { handles = b.handles; setup = setup; live = b.live; lists = lists; owner = owner; retired = b.retired }) hs ys
 relinked b hs xs ys l heads setup lists owner set_up owned fewer sound =
     let at : (n : ℕ) (s : Standing) → AllZip (λ x y. device_at n s x ≡ false → device_at n s y ≡ false) xs ys = λ n s. each_weaker SameHead _ (λ x y e t. same_at n s x y e ∙ t) xs ys heads in
@@ -124,14 +124,14 @@ give_up b hs xs l other =
 -- Another list under one handle.
 
 -- the rows of other handles do not see it
-pub sound_elsewhere : (lists : ℕ → DeviceCapability → Option ℕ) (retired : ℕ → Bool) (hs h : ℕ) (v : DeviceCapability → Option ℕ) (xs : List DeviceRow) → All (Sound lists retired hs) xs → All (λ x. device_by_handle h x ≡ false) xs → All (Sound (put lists h v) retired hs) xs
+pub sound_elsewhere : (lists : ℕ → DeviceCapability → Option ℕ) (retired : ℕ → Bool) (hs h : ℕ) (v : DeviceCapability → Option ℕ) (xs : List DeviceRow) → AllByRecursion (Sound lists retired hs) xs → AllByRecursion (λ x. device_by_handle h x ≡ false) xs → AllByRecursion (Sound (put lists h v) retired hs) xs
 sound_elsewhere lists retired hs h v xs sound others =
     All-weaker (λ x. Sound lists retired hs x × (device_by_handle h x ≡ false)) _
     (λ x s. record { owns_nothing = s.0.owns_nothing; given = s.0.given; listed = λ p. cond-false (eqb (handle_of x) h) _ _ (other_handle h x s.1 p) ∙ s.0.listed p; current = s.0.current })
     xs (all_both (Sound lists retired hs) (λ x. device_by_handle h x ≡ false) xs sound others)
 
 -- the row of the handle is changed with it
-pub sound_at_one : (b : Book) (hs : ℕ) (xs : List DeviceRow) → Linked b hs xs → (q : DeviceRow → Bool) (f : DeviceRow → DeviceRow) (h : ℕ) (v : DeviceCapability → Option ℕ) (r : DeviceRow) → first q xs ≡ Some r → pending r ≡ false → handle_of r ≡ h → Sound (put b.lists h v) b.retired hs (f r) → All (Sound (put b.lists h v) b.retired hs) (changed q f xs)
+pub sound_at_one : (b : Book) (hs : ℕ) (xs : List DeviceRow) → Linked b hs xs → (q : DeviceRow → Bool) (f : DeviceRow → DeviceRow) (h : ℕ) (v : DeviceCapability → Option ℕ) (r : DeviceRow) → first q xs ≡ Some r → pending r ≡ false → handle_of r ≡ h → Sound (put b.lists h v) b.retired hs (f r) → AllByRecursion (Sound (put b.lists h v) b.retired hs) (changed q f xs)
 sound_at_one b hs xs l q f h v r e settled named now =
     all_changed (Sound (put b.lists h v) b.retired hs) q f xs r e now
     (sound_elsewhere b.lists b.retired hs h v (without q xs) (all_without (Sound b.lists b.retired hs) q xs l.sound)

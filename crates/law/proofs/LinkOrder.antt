@@ -2,7 +2,7 @@
 use Rattle.std.proofs.Common.{◌≡◌, ℕ, ◌+◌, ◌<◌, ◌≤◌, Bool, true, false, eqb, ◌⊎◌, List, is_some, Some, sym, ap, ◌∙◌, subst, inl, inr, ⊎_elim, arith}
 use Rattle.std.proofs.ByRecursion.{All-weaker}
 use Rattle.std.proofs.lemmas.Bool.{cases_Bool, cases_lt, both_ways, eqb-true, ne_eqb}
-use Rattle.std.specs.List.{AllByRecursion as All}
+use Rattle.std.specs.List.{AllByRecursion}
 use Rattle.ei.specs.Events.{device_of, handle_of, at_time}
 use Rattle.ei.specs.declared.event.EiEvent.{EiEvent}
 use Rattle.records.specs.Rows.{any}
@@ -43,7 +43,7 @@ pub record Orderly (m : Model) : Type 0 where
   pub one_seat : (h : ℕ) → Lone (seat_by_handle h) m.seats
   pub one_device : (h : ℕ) → Lone (device_by_handle h) m.devices
   pub apart : (h : ℕ) → NoSeat h m.seats ⊎ NoDevice h m.devices
-  pub waits : All (Waits m.handles m.seats) m.store.pending
+  pub waits : AllByRecursion (Waits m.handles m.seats) m.store.pending
 
 -- a row that is found is somebody
 pub somebody : {X : Type 0} (p : X → Bool) (xs : List X) → any p xs ≡ true → Nobody p xs → ⊥

@@ -2,7 +2,7 @@
 use Rattle.std.proofs.Common.{◌≡◌, ℕ, ◌≤◌, Bool, true, false, cond, not, eqb, ◌⊎◌, List, [], ◌∷◌, is_some, Some, None, filter, Option, sym, refl, ap, ◌∙◌, subst, inl, inr, ⊎_elim, arith}
 use Rattle.std.proofs.ByRecursion.{All-weaker, all_kept_by, kept_by_passes}
 use Rattle.std.proofs.lemmas.Bool.{cases_Bool, cases_lt, both_ways, not-true, cond-true, cond-false, eqb-true, ne_eqb, cond_both}
-use Rattle.std.specs.List.{AllByRecursion as All}
+use Rattle.std.specs.List.{AllByRecursion}
 use Rattle.ei.specs.Events.{handle_of, at_time}
 use Rattle.ei.specs.Refusals.{answer_of}
 use Rattle.ei.specs.declared.event.EiEvent.{EiEvent}
@@ -26,7 +26,7 @@ use Rattle.law.proofs.LinkStores.{Used, a_device, a_seat, the_next, no_handle_at
 
 -- no event of these names the handle
 abbrev Silent : ℕ → List EiEvent → Type 0
-Silent h es = All (λ e. eqb (handle_of e) h ≡ false) es
+Silent h es = AllByRecursion (λ e. eqb (handle_of e) h ≡ false) es
 
 -- the handle was given, no row has it, and no event that is held names it
 record Unused (h : ℕ) (m : Model) : Type 0 where
@@ -65,7 +65,7 @@ unused_step b m l h u v c =
 -- Retiring.
 
 -- a filter that keeps nothing lets nothing pass
-none_kept : (p : EiEvent → Bool) (es : List EiEvent) → some (filter p es) ≡ false → All (λ e. p e ≡ false) es
+none_kept : (p : EiEvent → Bool) (es : List EiEvent) → some (filter p es) ≡ false → AllByRecursion (λ e. p e ≡ false) es
 none_kept p [] t = tt
 none_kept p (e ∷ es) t =
     ⊎_elim
@@ -171,7 +171,7 @@ unfolding named
 retired_law es m r h t = let u = run_retired r h t in (u.none_pending, u.none_queued)
 
 -- what holds of all holds of the oldest
-first_silent : (P : EiEvent → Type 0) (es : List EiEvent) (e : EiEvent) → All P es → Rattle.store.specs.Moves.first es ≡ Some e → P e
+first_silent : (P : EiEvent → Type 0) (es : List EiEvent) (e : EiEvent) → AllByRecursion P es → Rattle.store.specs.Moves.first es ≡ Some e → P e
 first_silent P [] e a is = absurd (none_some is)
 first_silent P (x ∷ es) e a is = subst P (let same : Some x ≡ Some e = is in cc) a.0
 

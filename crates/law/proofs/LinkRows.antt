@@ -3,7 +3,7 @@ use Rattle.std.proofs.Common.{◌≡◌, ℕ, Bool, true, false, cond, List, [],
 use Rattle.std.proofs.ByRecursion.{All-push}
 use Rattle.std.proofs.lemmas.Bool.{cond-true, cond-false, cond_both, cases_Bool, both_ways}
 use Rattle.std.specs.Option.{option_map}
-use Rattle.std.specs.List.{AllZip, AllByRecursion as All}
+use Rattle.std.specs.List.{AllZip, AllByRecursion}
 use Rattle.records.specs.Rows.{first, changed, without}
 
 -- no value is a value
@@ -37,7 +37,7 @@ none_any (Some x) t = absurd (both_ways true t refl)
 module _ {X : Type 0} where
   -- none passes
   abbrev pub Nobody : (X → Bool) → List X → Type 0
-  Nobody p xs = All (λ x. p x ≡ false) xs
+  Nobody p xs = AllByRecursion (λ x. p x ≡ false) xs
 
   -- at most one passes
   abbrev pub Lone : (X → Bool) → List X → Type 0
@@ -47,19 +47,19 @@ module _ {X : Type 0} where
   -- What holds of all.
 
   -- two facts of all
-  pub all_both : (P Q : X → Type 0) (xs : List X) → All P xs → All Q xs → All (λ x. P x × Q x) xs
+  pub all_both : (P Q : X → Type 0) (xs : List X) → AllByRecursion P xs → AllByRecursion Q xs → AllByRecursion (λ x. P x × Q x) xs
   all_both P Q [] a b = tt
   all_both P Q (x ∷ xs) a b = ((a.0, b.0), all_both P Q xs a.1 b.1)
 
   -- what holds of any row
-  pub all_here : (P : X → Type 0) → ((x : X) → P x) → (xs : List X) → All P xs
+  pub all_here : (P : X → Type 0) → ((x : X) → P x) → (xs : List X) → AllByRecursion P xs
   all_here P f [] = tt
   all_here P f (x ∷ xs) = (f x, all_here P f xs)
 
   -- and of fewer
-  pub all_without : (P : X → Type 0) (q : X → Bool) (xs : List X) → All P xs → All P (without q xs)
+  pub all_without : (P : X → Type 0) (q : X → Bool) (xs : List X) → AllByRecursion P xs → AllByRecursion P (without q xs)
   all_without P q [] a = tt
-  all_without P q (x ∷ xs) a = cond_both (q x) _ _ (All P) (λ _. a.1) (λ _. (a.0, all_without P q xs a.1))
+  all_without P q (x ∷ xs) a = cond_both (q x) _ _ (AllByRecursion P) (λ _. a.1) (λ _. (a.0, all_without P q xs a.1))
 
   -- The first.
 
@@ -73,7 +73,7 @@ module _ {X : Type 0} where
       (cases_Bool (p x))
 
   -- what holds of all holds of the first
-  pub all_first : (P : X → Type 0) (p : X → Bool) (xs : List X) (r : X) → All P xs → first p xs ≡ Some r → P r
+  pub all_first : (P : X → Type 0) (p : X → Bool) (xs : List X) (r : X) → AllByRecursion P xs → first p xs ≡ Some r → P r
   all_first P p [] r a e = absurd (none_some e)
   all_first P p (x ∷ xs) r a e =
       ⊎_elim
@@ -141,12 +141,12 @@ module _ {X : Type 0} where
   -- The first that passes is changed.
 
   -- what holds of the changed row and of the others holds of all
-  pub all_changed : (P : X → Type 0) (q : X → Bool) (f : X → X) (xs : List X) (r : X) → first q xs ≡ Some r → P (f r) → All P (without q xs) → All P (changed q f xs)
+  pub all_changed : (P : X → Type 0) (q : X → Bool) (f : X → X) (xs : List X) (r : X) → first q xs ≡ Some r → P (f r) → AllByRecursion P (without q xs) → AllByRecursion P (changed q f xs)
   all_changed P q f [] r e c a = tt
   all_changed P q f (x ∷ xs) r e c a =
-      cond_both (q x) _ _ (All P)
-      (λ t. (subst (λ y. P (f y)) (some_same (sym e ∙ cond-true (q x) _ _ t)) c, subst (All P) (cond-true (q x) _ _ t) a))
-      (λ t. let b : All P (x ∷ without q xs) = subst (All P) (cond-false (q x) _ _ t) a in
+      cond_both (q x) _ _ (AllByRecursion P)
+      (λ t. (subst (λ y. P (f y)) (some_same (sym e ∙ cond-true (q x) _ _ t)) c, subst (AllByRecursion P) (cond-true (q x) _ _ t) a))
+      (λ t. let b : AllByRecursion P (x ∷ without q xs) = subst (AllByRecursion P) (cond-false (q x) _ _ t) a in
       (b.0, all_changed P q f xs r (sym (cond-false (q x) _ _ t) ∙ e) c b.1))
 
   -- a row that comes to pass, where none did, is the first and the only one
@@ -187,7 +187,7 @@ module _ {X : Type 0} where
       (λ t. (same x, each_changed R q f same xs (λ r e. c r (cond-false (q x) _ _ t ∙ e))))
 
   -- every row is changed
-  pub each_map : (R : X → X → Type 0) (f : X → X) (xs : List X) → All (λ x. R x (f x)) xs → AllZip R xs (map f xs)
+  pub each_map : (R : X → X → Type 0) (f : X → X) (xs : List X) → AllByRecursion (λ x. R x (f x)) xs → AllZip R xs (map f xs)
   each_map R f [] a = tt
   each_map R f (x ∷ xs) a = (a.0, each_map R f xs a.1)
 
@@ -199,14 +199,14 @@ module _ {X : Type 0} where
   each_weaker R S f (x ∷ xs) (y ∷ ys) a = (f x y a.0, each_weaker R S f xs ys a.1)
 
   -- what a tie hands on
-  pub each_all : (P Q : X → Type 0) (xs ys : List X) → AllZip (λ x y. P x → Q y) xs ys → All P xs → All Q ys
+  pub each_all : (P Q : X → Type 0) (xs ys : List X) → AllZip (λ x y. P x → Q y) xs ys → AllByRecursion P xs → AllByRecursion Q ys
   each_all P Q [] [] e a = tt
   each_all P Q [] (y ∷ ys) e a = absurd e
   each_all P Q (x ∷ xs) [] e a = absurd e
   each_all P Q (x ∷ xs) (y ∷ ys) e a = (e.0 a.0, each_all P Q xs ys e.1 a.1)
 
   -- what a change keeps
-  pub all_changed_by : (P : X → Type 0) (q : X → Bool) (f : X → X) (xs : List X) → ((r : X) → first q xs ≡ Some r → P r → P (f r)) → All P xs → All P (changed q f xs)
+  pub all_changed_by : (P : X → Type 0) (q : X → Bool) (f : X → X) (xs : List X) → ((r : X) → first q xs ≡ Some r → P r → P (f r)) → AllByRecursion P xs → AllByRecursion P (changed q f xs)
   all_changed_by P q f xs c a = each_all P P xs (changed q f xs) (each_changed (λ x y. P x → P y) q f (λ x p. p) xs c) a
 
   -- no more rows pass than did

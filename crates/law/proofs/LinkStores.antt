@@ -3,7 +3,7 @@ use Rattle.std.proofs.Common.{◌≡◌, ℕ, ◌+◌, Bool, true, false, cond, 
 use Rattle.std.proofs.ByRecursion.{All-push, All-append, All-map, All-weaker, all_kept_by, All-drop}
 use Rattle.std.proofs.lemmas.Bool.{cases_Bool, both_ways, eq-eqb, cond_both}
 use Rattle.std.specs.Option.{option_map}
-use Rattle.std.specs.List.{AllByRecursion as All}
+use Rattle.std.specs.List.{AllByRecursion}
 use Rattle.ei.specs.Texts.{text_of}
 use Rattle.ei.specs.Events.{device_of, handle_of, at_time}
 use Rattle.ei.specs.declared.event.EiEvent.{EiEvent}
@@ -48,37 +48,37 @@ pub data Stored (m : Model) : Contents → Type 0 where
 -- What holds of the events.
 
 module _ (P : EiEvent → Type 0) where
-  all_batch : ((t : ℕ) (e : EiEvent) → P e → P (at_time t e)) → (f : Frame) → P (frame f) → (es : List EiEvent) → All P es → All P (batch f es)
+  all_batch : ((t : ℕ) (e : EiEvent) → P e → P (at_time t e)) → (f : Frame) → P (frame f) → (es : List EiEvent) → AllByRecursion P es → AllByRecursion P (batch f es)
   unfolding batch
   all_batch timed f p [] a = tt
   all_batch timed f p (e ∷ es) a = All-push P (map (at_time f.time) (e ∷ es)) (frame f) (All-map P (at_time f.time) (e ∷ es) (All-weaker P _ (timed f.time) (e ∷ es) a)) p
 
   module _ {m : Model} where
     -- of those that wait
-    pub pending_stored : {c : Contents} → Stored m c → ((e : EiEvent) → device_of e ≡ Some (handle_of e) → any (device_by_handle (handle_of e)) m.devices ≡ true → P (at_time 0 e)) → All P m.store.pending → All P c.pending
+    pub pending_stored : {c : Contents} → Stored m c → ((e : EiEvent) → device_of e ≡ Some (handle_of e) → any (device_by_handle (handle_of e)) m.devices ≡ true → P (at_time 0 e)) → AllByRecursion P m.store.pending → AllByRecursion P c.pending
     unfolding queue queue_framed commit hold rest discard added framed pended others
     pending_stored as_it_was new a = a
-    pending_stored (queues e u) new a = cond_both (fits 1 m.store) _ _ (λ (c : Contents). All P c.pending) (λ _. a) (λ _. a)
-    pending_stored (frames f e u w) new a = cond_both (can_queue_framed f m.store) _ _ (λ (c : Contents). All P c.pending) (λ _. all_kept_by (not_of f.device) P m.store.pending a) (λ _. a)
-    pending_stored (commits f u) new a = cond_both (can_commit f m.store) _ _ (λ (c : Contents). All P c.pending) (λ _. all_kept_by (not_of f.device) P m.store.pending a) (λ _. a)
-    pending_stored (holds e d u) new a = cond_both (can_hold m.store) _ _ (λ (c : Contents). All P c.pending) (λ _. All-push P m.store.pending (at_time 0 e) a (new e d u)) (λ _. a)
+    pending_stored (queues e u) new a = cond_both (fits 1 m.store) _ _ (λ (c : Contents). AllByRecursion P c.pending) (λ _. a) (λ _. a)
+    pending_stored (frames f e u w) new a = cond_both (can_queue_framed f m.store) _ _ (λ (c : Contents). AllByRecursion P c.pending) (λ _. all_kept_by (not_of f.device) P m.store.pending a) (λ _. a)
+    pending_stored (commits f u) new a = cond_both (can_commit f m.store) _ _ (λ (c : Contents). AllByRecursion P c.pending) (λ _. all_kept_by (not_of f.device) P m.store.pending a) (λ _. a)
+    pending_stored (holds e d u) new a = cond_both (can_hold m.store) _ _ (λ (c : Contents). AllByRecursion P c.pending) (λ _. All-push P m.store.pending (at_time 0 e) a (new e d u)) (λ _. a)
     pending_stored hands_out new a = a
     pending_stored (discards h) new a = all_kept_by (not_of h) P m.store.pending a
 
     -- of those that are queued
-    pub queued_stored : {c : Contents} → Stored m c → ((t : ℕ) (e : EiEvent) → P e → P (at_time t e)) → ((e : EiEvent) → Used m (handle_of e) → P e) → All P m.store.pending → All P m.store.queued → All P c.queued
+    pub queued_stored : {c : Contents} → Stored m c → ((t : ℕ) (e : EiEvent) → P e → P (at_time t e)) → ((e : EiEvent) → Used m (handle_of e) → P e) → AllByRecursion P m.store.pending → AllByRecursion P m.store.queued → AllByRecursion P c.queued
     unfolding queue queue_framed commit hold rest discard added framed pended pending_for
     queued_stored as_it_was timed new a b = b
-    queued_stored (queues e u) timed new a b = cond_both (fits 1 m.store) _ _ (λ (c : Contents). All P c.queued) (λ _. All-push P m.store.queued e b (new e u)) (λ _. b)
+    queued_stored (queues e u) timed new a b = cond_both (fits 1 m.store) _ _ (λ (c : Contents). AllByRecursion P c.queued) (λ _. All-push P m.store.queued e b (new e u)) (λ _. b)
     queued_stored (frames f e u w) timed new a b =
-        cond_both (can_queue_framed f m.store) _ _ (λ (c : Contents). All P c.queued)
+        cond_both (can_queue_framed f m.store) _ _ (λ (c : Contents). AllByRecursion P c.queued)
         (λ _. All-push P (m.store.queued ++ batch f (pending_for f.device m.store)) e (All-append P m.store.queued (batch f (pending_for f.device m.store)) b (all_batch timed f (new (frame f) u) _ (all_kept_by (of f.device) P m.store.pending a))) (new e w))
         (λ _. b)
     queued_stored (commits f u) timed new a b =
-        cond_both (can_commit f m.store) _ _ (λ (c : Contents). All P c.queued)
+        cond_both (can_commit f m.store) _ _ (λ (c : Contents). AllByRecursion P c.queued)
         (λ _. All-append P m.store.queued (batch f (pending_for f.device m.store)) b (all_batch timed f (new (frame f) u) _ (all_kept_by (of f.device) P m.store.pending a)))
         (λ _. b)
-    queued_stored (holds e d u) timed new a b = cond_both (can_hold m.store) _ _ (λ (c : Contents). All P c.queued) (λ _. b) (λ _. b)
+    queued_stored (holds e d u) timed new a b = cond_both (can_hold m.store) _ _ (λ (c : Contents). AllByRecursion P c.queued) (λ _. b) (λ _. b)
     queued_stored hands_out timed new a b = All-drop P 1 m.store.queued b
     queued_stored (discards h) timed new a b = b
 

@@ -3,7 +3,7 @@ use Rattle.std.proofs.Common.{◌≡◌, ℕ, Bool, true, List, [], ◌∷◌, �
 use Rattle.std.proofs.ByRecursion.{All-push, All-map}
 use Rattle.std.proofs.lemmas.Bool.{both_ways}
 use Rattle.std.specs.Option.{option_map}
-use Rattle.std.specs.List.{AllByRecursion as All}
+use Rattle.std.specs.List.{AllByRecursion}
 use Rattle.ei.specs.declared.object.Object.{Object}
 use Rattle.records.specs.Devices.{new_device, device_taken, gone_live, superseded, destroyed}
 use Rattle.records.specs.Owners.{owns_it, pending_lists}
@@ -35,44 +35,44 @@ described_typed Live d x e t = t
 described_typed Detached d x e t = t
 
 -- a detail
-detailed_typed : (q : DeviceRow → Bool) (d : Detail) (xs : List DeviceRow) → All Typed xs → All Typed (changed q (λ x. device_taken x.head.standing (stages.Setup d) x) xs)
+detailed_typed : (q : DeviceRow → Bool) (d : Detail) (xs : List DeviceRow) → AllByRecursion Typed xs → AllByRecursion Typed (changed q (λ x. device_taken x.head.standing (stages.Setup d) x) xs)
 detailed_typed q d xs a = all_changed_by Typed q _ xs (λ x _ t. described_typed x.head.standing d x refl t) a
 
 -- an interface object
-equipped_typed : (n : ℕ) (o : Object) (xs : List DeviceRow) → All Typed xs → All Typed (device_steps n Pending (steps.Take (stages.Interface o)) xs)
-equipped_typed n o xs a = subst (All Typed) (sym (stepped_as n Pending (stages.Interface o) (with_one o) (λ x. refl) xs)) (all_changed_by Typed (device_at n Pending) (with_one o) xs (λ x _ t. t) a)
+equipped_typed : (n : ℕ) (o : Object) (xs : List DeviceRow) → AllByRecursion Typed xs → AllByRecursion Typed (device_steps n Pending (steps.Take (stages.Interface o)) xs)
+equipped_typed n o xs a = subst (AllByRecursion Typed) (sym (stepped_as n Pending (stages.Interface o) (with_one o) (λ x. refl) xs)) (all_changed_by Typed (device_at n Pending) (with_one o) xs (λ x _ t. t) a)
 
 -- a new device is being set up
-arrived_typed : (n seat : ℕ) (xs : List DeviceRow) → All Typed xs → All Typed (without (device_at n Pending) xs ++ (new_device n seat ∷ []))
+arrived_typed : (n seat : ℕ) (xs : List DeviceRow) → AllByRecursion Typed xs → AllByRecursion Typed (without (device_at n Pending) xs ++ (new_device n seat ∷ []))
 arrived_typed n seat xs a = All-push Typed (without (device_at n Pending) xs) (new_device n seat) (all_without Typed (device_at n Pending) xs a) (λ p. absurd (both_ways true p refl))
 
 -- the device that goes live has the type that was looked at
-done_typed : (n h : ℕ) (row : DeviceRow) (xs : List DeviceRow) → All Typed xs → first (device_at n Pending) xs ≡ Some row → is_some (type_of row) ≡ true
-    → All Typed (device_steps n Pending (steps.Take (stages.Done h)) (device_steps n Live (steps.Take (stages.Done h)) (all_step (steps.GiveUp row.list) xs)))
+done_typed : (n h : ℕ) (row : DeviceRow) (xs : List DeviceRow) → AllByRecursion Typed xs → first (device_at n Pending) xs ≡ Some row → is_some (type_of row) ≡ true
+    → AllByRecursion Typed (device_steps n Pending (steps.Take (stages.Done h)) (device_steps n Live (steps.Take (stages.Done h)) (all_step (steps.GiveUp row.list) xs)))
 done_typed n h row xs a e typed =
     let q : DeviceRow → Bool = device_at n Pending in
     let live : DeviceRow → Bool = device_at n Live in
     let xs₁ : List DeviceRow = all_step (steps.GiveUp row.list) xs in
     let xs₂ : List DeviceRow = changed live superseded xs₁ in
-    let a₂ : All Typed xs₂ = all_changed_by Typed live superseded xs₁ (λ x w t _. t (live_settled n x (first_passes live xs₁ x w))) (All-map Typed (less row.list) xs a) in
+    let a₂ : AllByRecursion Typed xs₂ = all_changed_by Typed live superseded xs₁ (λ x w t _. t (live_settled n x (first_passes live xs₁ x w))) (All-map Typed (less row.list) xs a) in
     let back : xs₂ ≡ device_steps n Live (steps.Take (stages.Done h)) xs₁ = sym (stepped_as n Live (stages.Done h) superseded (λ x. refl) xs₁) in
     let is : (x : DeviceRow) → first q xs₂ ≡ Some x → is_some (type_of x) ≡ true = λ x w. ap is_some (some_same (sym (ap (option_map type_of) w) ∙ (ap (λ zs. option_map type_of (first q zs)) back ∙ pending_after n h row xs e))) ∙ typed in
-    subst (λ zs. All Typed (device_steps n Pending (steps.Take (stages.Done h)) zs)) back
-    (subst (All Typed) (sym (stepped_as n Pending (stages.Done h) (gone_live h) (λ x. refl) xs₂)) (all_changed_by Typed q (gone_live h) xs₂ (λ x w _ _. is x w) a₂))
+    subst (λ zs. AllByRecursion Typed (device_steps n Pending (steps.Take (stages.Done h)) zs)) back
+    (subst (AllByRecursion Typed) (sym (stepped_as n Pending (stages.Done h) (gone_live h) (λ x. refl) xs₂)) (all_changed_by Typed q (gone_live h) xs₂ (λ x w _ _. is x w) a₂))
 
 -- a destroyed device keeps its type
-gone_typed : (n : ℕ) (row : DeviceRow) (xs : List DeviceRow) → All Typed xs → All Typed (device_steps n Live (steps.Take stages.Destroyed) (all_step (steps.GiveUp row.list) (without (device_at n Pending) xs)))
+gone_typed : (n : ℕ) (row : DeviceRow) (xs : List DeviceRow) → AllByRecursion Typed xs → AllByRecursion Typed (device_steps n Live (steps.Take stages.Destroyed) (all_step (steps.GiveUp row.list) (without (device_at n Pending) xs)))
 gone_typed n row xs a =
     let ys : List DeviceRow = all_step (steps.GiveUp row.list) (without (device_at n Pending) xs) in
-    subst (All Typed) (sym (stepped_as n Live stages.Destroyed destroyed (λ x. refl) ys))
+    subst (AllByRecursion Typed) (sym (stepped_as n Live stages.Destroyed destroyed (λ x. refl) ys))
     (all_changed_by Typed (device_at n Live) destroyed ys (λ x w t _. t (live_settled n x (first_passes (device_at n Live) ys x w))) (All-map Typed (less row.list) (without (device_at n Pending) xs) (all_without Typed (device_at n Pending) xs a)))
 
 -- all rows, whatever the book says
 abbrev AllTyped : Book → Model → Type 0
-AllTyped b m = All Typed m.devices
+AllTyped b m = AllByRecursion Typed m.devices
 
 -- call by call
-typed_step : (b : Book) (m : Model) → All Typed m.devices → (v : View) (c : Call) → Kept AllTyped b c (handled v c m)
+typed_step : (b : Book) (m : Model) → AllByRecursion Typed m.devices → (v : View) (c : Call) → Kept AllTyped b c (handled v c m)
 typed_step b m a v handshake = record { kept = a }
 typed_step b m a v (new_seat n) = search shapes
 typed_step b m a v (ping n) = search shapes
@@ -115,6 +115,6 @@ typed_step b m a v (retire_device h) = let gone = all_without Typed (device_by_h
 pub typed_law : TypedLaw
 typed_law es m r = go r
   where
-    go : {es : List Entry} {m : Model} → Run es m → All Typed m.devices
+    go : {es : List Entry} {m : Model} → Run es m → AllByRecursion Typed m.devices
     go (start s) = tt
     go (more {m = m} r v c) = (typed_step blank m (go r) v c).kept

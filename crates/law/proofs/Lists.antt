@@ -4,7 +4,7 @@ use Rattle.std.proofs.lemmas.List.Elements.{filter-append}
 use Rattle.std.proofs.ByRecursion.{All-weaker}
 use Rattle.std.proofs.lemmas.List.{map-append}
 use Rattle.std.proofs.lemmas.Bool.{cases_Bool, cond-true, cond-false, both_ways}
-use Rattle.std.specs.List.{AllByRecursion as All}
+use Rattle.std.specs.List.{AllByRecursion}
 use Rattle.ei.specs.Events.{device_of, timed, is_frame, time_of, at_time}
 use Rattle.ei.specs.declared.event.EiEvent.{EiEvent}
 use Rattle.law.specs.Law.{timed_of_handle, timed_of, same_device, next_frame, Stamped, FramedAfter, Framed}
@@ -12,7 +12,7 @@ use Rattle.law.proofs.Events.{Plain}
 
 module _ {X : Type 0} (p : X → Bool) where
   -- none passes
-  pub kept_nothing : (xs : List X) → All (λ x. p x ≡ false) xs → filter p xs ≡ []
+  pub kept_nothing : (xs : List X) → AllByRecursion (λ x. p x ≡ false) xs → filter p xs ≡ []
   kept_nothing [] a = refl
   kept_nothing (x ∷ xs) a = cond-false (p x) _ _ a.0 ∙ kept_nothing xs a.1
 
@@ -48,13 +48,13 @@ framed_append (e ∷ q) r f g = (f.0, framed_after_append e q r f.1 g)
 
 -- Of plain events.
 
-pub stamped_plain : (q : List EiEvent) → All Plain q → Stamped q
+pub stamped_plain : (q : List EiEvent) → AllByRecursion Plain q → Stamped q
 stamped_plain [] a = tt
 stamped_plain (e ∷ q) a = (λ t. absurd (both_ways (timed e) a.0.0 t), stamped_plain q a.1)
 
-pub framed_plain : (q : List EiEvent) → All Plain q → Framed q
+pub framed_plain : (q : List EiEvent) → AllByRecursion Plain q → Framed q
 framed_plain [] a = tt
 framed_plain (e ∷ q) a = (a.0.1, framed_behind e q (framed_plain q a.1))
 
-pub timed_of_plain : (h : ℕ) (q : List EiEvent) → All Plain q → timed_of h q ≡ []
+pub timed_of_plain : (h : ℕ) (q : List EiEvent) → AllByRecursion Plain q → timed_of h q ≡ []
 timed_of_plain h q a = ap (map (at_time 0)) (kept_nothing (timed_of_handle h) q (All-weaker Plain (λ e. timed_of_handle h e ≡ false) (λ e p. cond-false (timed e) _ _ p.0) q a))

@@ -3,7 +3,7 @@ use Rattle.std.proofs.Common.{◌≡◌, ℕ, true, false, cond, eqb, List, [], 
 use Rattle.std.proofs.lemmas.List.{append-nil, append_assoc}
 use Rattle.std.proofs.lemmas.Bool.{cases_Bool, cond-true, cond-false}
 use Rattle.std.specs.Option.{option_to_list}
-use Rattle.std.specs.List.{AllByRecursion as All}
+use Rattle.std.specs.List.{AllByRecursion}
 use Rattle.ei.specs.Events.{device_of}
 use Rattle.ei.specs.declared.event.EiEvent.{EiEvent}
 use Rattle.ei.specs.declared.event.Frame.{Frame}
@@ -52,7 +52,7 @@ module _ (b : Book) (e : Entry) (c : Contents) (tidy : TidyStore c) where
       (append-nil c.queued ∙ ((next_law c).from_front ∙ ap (λ l. l ++ (rest c).queued) (listed_same (given c) ∙ sym (ap listed g))))
       idle.frees
       (λ h _. waits_still idle (rest c) h (same_pending h c (rest c) (next_law c).all_wait))
-      (subst (All Unstamped) (sym (next_law c).all_wait) tidy)
+      (subst (AllByRecursion Unstamped) (sym (next_law c).all_wait) tidy)
 
   module _ (none : e.given ≡ None) where
     -- nothing is handed out
@@ -69,7 +69,7 @@ module _ (b : Book) (e : Entry) (c : Contents) (tidy : TidyStore c) where
         let law = queue_law x c y in
         free_step b e c (queue x c) (x ∷ []) (p, tt) (behind _ _ (sym law.event_last)) idle.frees
         (λ h _. waits_still idle (queue x c) h (same_pending h c (queue x c) law.all_wait))
-        (subst (All Unstamped) (sym law.all_wait) tidy)
+        (subst (AllByRecursion Unstamped) (sym law.all_wait) tidy)
 
     -- what waits for a device that is retired now is discarded
     pub discards : Idle b e → (d : ℕ) → ((h : ℕ) → (booked b e.call e.answer).retired h ≡ false → eqb d h ≡ false) → Step b e c (discard d c)

@@ -2,7 +2,7 @@
 use Rattle.std.proofs.Common.{◌≡◌, ℕ, Bool, true, false, eqb, List, [], ◌∷◌, ◌++◌, Some, None, Option, sym, refl, ap, ◌∙◌, subst, ⊎_elim}
 use Rattle.std.proofs.lemmas.List.{append-nil, append_assoc}
 use Rattle.std.proofs.lemmas.Bool.{cases_Bool, cond-true, cond-false, cond_both, both_ways}
-use Rattle.std.specs.List.{AllByRecursion as All}
+use Rattle.std.specs.List.{AllByRecursion}
 use Rattle.ei.specs.Events.{is_frame, time_of}
 use Rattle.ei.specs.declared.event.EiEvent.{EiEvent}
 use Rattle.store.specs.Moves.{Contents, pending_for}
@@ -27,7 +27,7 @@ pub record Step (b : Book) (e : Entry) (before after : Contents) : Type 0 where
   pub moves : before.queued ++ added ≡ listed e.given ++ after.queued
   pub stamped : Stamped added
   pub framed : Framed added
-  pub times : All (λ x. is_frame x ≡ true → time_of x ≡ frame_time e) added
+  pub times : AllByRecursion (λ x. is_frame x ≡ true → time_of x ≡ frame_time e) added
   pub fate : (h : ℕ) → b.retired h ≡ false → Fate b e added h (pending_for h before) (pending_for h after)
   pub retired : (h : ℕ) → b.retired h ≡ true → timed_of h added ≡ []
   pub tidy : TidyStore after

@@ -2,7 +2,7 @@
 use Rattle.std.proofs.Common.{◌≡◌, ℕ, true, List, [], ◌∷◌, Some, None, filter, Option, sym, subst}
 use Rattle.std.proofs.ByRecursion.{all_kept_by, All-push}
 use Rattle.std.proofs.lemmas.Bool.{cond_both, eqb-true, false≢true}
-use Rattle.std.specs.List.{AllByRecursion as All}
+use Rattle.std.specs.List.{AllByRecursion}
 use Rattle.ei.specs.Events.{device_of, timed, at_time}
 use Rattle.ei.specs.declared.event.EiEvent.{EiEvent}
 use Rattle.store.proofs.Handles.{hold_done}
@@ -14,7 +14,7 @@ abbrev pub Unstamped : EiEvent → Type 0
 Unstamped e = (timed e ≡ true) × (at_time 0 e ≡ e)
 
 abbrev pub TidyStore : Contents → Type 0
-TidyStore c = All Unstamped c.pending
+TidyStore c = AllByRecursion Unstamped c.pending
 
 abbrev pub Tidy : Model → Type 0
 Tidy m = TidyStore m.store
@@ -26,18 +26,18 @@ device_from : (h : ℕ) (o : Option ℕ) → is_device h o ≡ true → o ≡ So
 device_from h None y = absurd (false≢true y)
 device_from h (Some d) y = λ i. Some (eqb-true d h y i)
 
-timed_in : (h : ℕ) (es : List EiEvent) → All Unstamped es → All (TimedFor h) (filter (of h) es)
+timed_in : (h : ℕ) (es : List EiEvent) → AllByRecursion Unstamped es → AllByRecursion (TimedFor h) (filter (of h) es)
 unfolding of
 timed_in h [] a = tt
 timed_in h (e ∷ es) a =
-    cond_both (of h e) (e ∷ filter (of h) es) (filter (of h) es) (All (TimedFor h)) (λ y. ((a.0.0, device_from h (device_of e) y, a.0.1), timed_in h es a.1)) (λ _. timed_in h es a.1)
+    cond_both (of h e) (e ∷ filter (of h) es) (filter (of h) es) (AllByRecursion (TimedFor h)) (λ y. ((a.0.0, device_from h (device_of e) y, a.0.1), timed_in h es a.1)) (λ _. timed_in h es a.1)
 
 -- what waits for a device is its
-pub pending_timed : (h : ℕ) (c : Contents) → TidyStore c → All (TimedFor h) (pending_for h c)
+pub pending_timed : (h : ℕ) (c : Contents) → TidyStore c → AllByRecursion (TimedFor h) (pending_for h c)
 unfolding pending_for
 pending_timed h c a = timed_in h c.pending a
 
-pub tidy_others : (h : ℕ) (c : Contents) → TidyStore c → All Unstamped (others h c)
+pub tidy_others : (h : ℕ) (c : Contents) → TidyStore c → AllByRecursion Unstamped (others h c)
 unfolding others
 tidy_others h c a = all_kept_by (not_of h) Unstamped c.pending a
 

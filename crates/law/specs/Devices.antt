@@ -1,6 +1,6 @@
 -- What holds of seats, devices and their handles at every point of a run.
 use Rattle.std.specs.Prelude.{◌≡◌, ℕ, true, false, ◌⊎◌, List, [], ◌∷◌, is_some, Some}
-use Rattle.std.specs.List.{AllByRecursion as All}
+use Rattle.std.specs.List.{AllByRecursion}
 use Rattle.ei.specs.declared.event.EiEvent.{EiEvent}
 use Rattle.records.specs.Rows.{same_standing}
 use Rattle.records.specs.declared.device.DeviceRow.{DeviceRow}
@@ -16,7 +16,7 @@ abbrev pub Typed : DeviceRow → Type 0
 Typed row = same_standing row.head.standing Pending ≡ false → is_some row.description.device_type ≡ true
 
 abbrev pub TypedLaw : Type 0
-TypedLaw = (es : List Entry) (m : Model) → Run es m → All Typed m.devices
+TypedLaw = (es : List Entry) (m : Model) → Run es m → AllByRecursion Typed m.devices
 
 -- the call retired the handle, of a seat or of a device
 abbrev pub Retires : ℕ → Entry → Type 0
@@ -29,7 +29,7 @@ Retired h (e ∷ es) = Retires h e ⊎ Retired h es
 
 -- no event that is held, pending or queued, names the handle
 abbrev pub Unnamed : ℕ → Contents → Type 0
-Unnamed h c = All (λ e. named h e ≡ false) c.pending × All (λ e. named h e ≡ false) c.queued
+Unnamed h c = AllByRecursion (λ e. named h e ≡ false) c.pending × AllByRecursion (λ e. named h e ≡ false) c.queued
 
 -- what is retired is named by nothing that is held, at every later point
 abbrev pub RetiredLaw : Type 0

@@ -1,6 +1,6 @@
 -- The record law: what the calls and answers of a session, the queued list and what is pending have to do with each other.
 use Rattle.std.specs.Prelude.{◌≡◌, ℕ, Bool, true, false, cond, List, [], ◌∷◌, ◌++◌, map, Some, None, filter, Option}
-use Rattle.std.specs.List.{AllByRecursion as All}
+use Rattle.std.specs.List.{AllByRecursion}
 use Rattle.ei.specs.Events.{device_of, timed, is_frame, time_of, at_time}
 use Rattle.ei.specs.declared.event.EiEvent.{EiEvent}
 use Rattle.law.specs.History.{Entry, book, holds, accepted, since, queued_by, given_by, at_some, server_time}
@@ -48,7 +48,7 @@ frame_time e = at_some (server_time e.call) e.reading (λ t. t)
 abbrev pub Lengthened : List Entry → Type 0
 Lengthened [] = Unit {0}
 Lengthened (e ∷ es) =
-    ((added : List EiEvent) × (e.queued ≡ queued_by es ++ added) × All (λ x. is_frame x ≡ true → time_of x ≡ frame_time e) added) × Lengthened es
+    ((added : List EiEvent) × (e.queued ≡ queued_by es ++ added) × AllByRecursion (λ x. is_frame x ≡ true → time_of x ≡ frame_time e) added) × Lengthened es
 
 -- pending says, by handle, what the store holds for it besides what is queued; left is what next_event would still give
 pub record Faithful (es : List Entry) (pending : ℕ → List EiEvent) (left : List EiEvent) : Type 0 where

@@ -2,7 +2,7 @@
 use Rattle.std.specs.Prelude.{◌≡◌, ℕ, ◌+◌, ◌*◌, ◌/◌, ◌%◌, ◌<◌, cond, ◌⊎◌, List, [], ◌∷◌, ◌++◌, Some, None, Ok, Err, Option, Result, ◌==◌, nat_le, nat_lt}
 use Rattle.std.specs.Option.{option_map, option_to_list}
 use Rattle.std.specs.Char.{digit_char, digit_value}
-use Rattle.std.specs.List.{AllByRecursion as All}
+use Rattle.std.specs.List.{AllByRecursion}
 use Rattle.wording.specs.declared.malformed.Malformed.{Malformed}
 use Rattle.wording.specs.declared.malformed.Malformed.TheVariants.{BadText, NoMemory}
 use Rattle.wording.specs.declared.quote.Place.{Place}
@@ -76,4 +76,4 @@ ReadsAs o (Err e) t = (e ≡ NoMemory) ⊎ ((e ≡ BadText) × (o ≡ None))
 
 -- what was quoted is read back
 abbrev pub ReadBack : Type 0
-ReadBack = (bs : List ℕ) → All (λ b. b < 256) bs → unquoted (quoted bs) ≡ Some bs
+ReadBack = (bs : List ℕ) → AllByRecursion (λ b. b < 256) bs → unquoted (quoted bs) ≡ Some bs
