@@ -1,4 +1,3 @@
-ghost use Rattle.std.specs.Prelude.{◌≡◌};
 ghost use Rattle.records.specs.declared.standing.Standing.TheVariants as standings;
 
 use crate::standing::{Record, Row, Standing};

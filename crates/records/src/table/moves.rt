@@ -1,4 +1,4 @@
-ghost use Rattle.std.specs.Prelude.{◌≡◌, ltb, [], ◌∷◌, ◌++◌, map, length, IfOk, if◌then◌else◌, Ok, Err, nat_lt};
+ghost use Rattle.std.specs.Prelude.{◌≡◌, [], ◌∷◌, ◌++◌, map, length, IfOk, if◌then◌else◌, Ok, Err, nat_lt};
 ghost use Rattle.std.specs.Option.{option_map};
 ghost use Rattle.ei.specs.declared.error.EventError.TheVariants as refusals;
 ghost use Rattle.records.specs.Rows.{Finds, at_number, by_handle, first, any, no_row_for, without, changed, changed_at};
@@ -51,8 +51,8 @@ impl<R: Row + Copy, const N: usize> Table<R, N> {
 
     // A new row at the end.
     pub fn push(&mut self, row: R) -> Result<(), EventError>
-        ensures answer { result ≡ (if ltb (length (rows_of self.old)) N then Ok tt else Err refusals.TableFull) }
-        ensures after { rows_of self.new ≡ (if ltb (length (rows_of self.old)) N then rows_of self.old ++ row ∷ [] else rows_of self.old) }
+        ensures answer { result ≡ (if nat_lt (length (rows_of self.old)) N then Ok tt else Err refusals.TableFull) }
+        ensures after { rows_of self.new ≡ (if nat_lt (length (rows_of self.old)) N then rows_of self.old ++ row ∷ [] else rows_of self.old) }
     {
         if self.rows.len() >= N {
             return Err(EventError::TableFull);

@@ -1,5 +1,4 @@
 // What an interface object says.
-ghost use Rattle.std.specs.Prelude.{◌≡◌};
 ghost use Rattle.tables.specs.Rests.{Takes};
 ghost use Rattle.tables.specs.Shown.{model_of};
 ghost use Rattle.tables.specs.Told.{keyboard_call, pointer_call, pointer_absolute_call, button_call};

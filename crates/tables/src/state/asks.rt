@@ -1,5 +1,5 @@
 // Empty tables, and what can be asked of them.
-ghost use Rattle.std.specs.Prelude.{◌≡◌, cond, not, IfOk};
+ghost use Rattle.std.specs.Prelude.{◌≡◌, not, IfOk};
 ghost use Rattle.std.specs.Option.{ok_or};
 ghost use Rattle.ei.specs.declared.error.EventError.TheVariants as refusals;
 ghost use Rattle.store.specs.Contents.{contents};

@@ -1,5 +1,4 @@
 // What the connection says.
-ghost use Rattle.std.specs.Prelude.{◌≡◌};
 ghost use Rattle.std.specs.Option.{option_map};
 ghost use Rattle.tables.specs.Calls.{new_seat, disconnected};
 ghost use Rattle.tables.specs.Rests.{Takes};

@@ -1,5 +1,4 @@
 // Each low-level event, by its interface.
-ghost use Rattle.std.specs.Prelude.{◌≡◌};
 ghost use Rattle.tables.specs.Rests.{Takes};
 ghost use Rattle.tables.specs.Shown.{model_of};
 ghost use Rattle.tables.specs.Told.{told, connection_call, callback_call, seat_call, device_call};

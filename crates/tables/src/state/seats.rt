@@ -1,5 +1,4 @@
 // What is said of a seat.
-ghost use Rattle.std.specs.Prelude.{◌≡◌};
 ghost use Rattle.tables.specs.Calls.{seat_name, seat_capability, seat_done, seat_device, seat_destroyed};
 ghost use Rattle.tables.specs.Rests.{Takes};
 ghost use Rattle.tables.specs.Shown.{model_of};

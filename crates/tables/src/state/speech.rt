@@ -1,5 +1,4 @@
 // What a live device says of itself.
-ghost use Rattle.std.specs.Prelude.{◌≡◌};
 ghost use Rattle.tables.specs.Calls.{device_speech, resumed, paused, start_emulating, stop_emulating};
 ghost use Rattle.tables.specs.Rests.{Takes};
 ghost use Rattle.tables.specs.Shown.{model_of};

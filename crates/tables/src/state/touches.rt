@@ -1,5 +1,5 @@
 // What a scroll, a touchscreen and a text say.
-ghost use Rattle.std.specs.Prelude.{◌≡◌, if◌then◌else◌};
+ghost use Rattle.std.specs.Prelude.{if◌then◌else◌};
 ghost use Rattle.tables.specs.Calls.{act, scroll_cancel, scroll_stop, utf8};
 ghost use Rattle.tables.specs.Rests.{Takes};
 ghost use Rattle.tables.specs.Shown.{model_of};
