@@ -1,2 +1,2 @@
 pub mod Frames
-pub mod Handing
+pub mod Laws

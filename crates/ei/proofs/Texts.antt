@@ -1,8 +1,9 @@
 -- A text is its bytes: it is read as it was made, and two with the same bytes are the same.
-use Rattle.std.proofs.Common.{◌≡◌, ℕ, ◌+◌, ◌<◌, ◌≤◌, min, ◌≢◌, List, [], ◌++◌, length, get_or, take, set, replicate, sym, ◌∙◌, subst, ⊎_elim, arith}
+use Rattle.std.proofs.Common.{ap, drop, ◌-◌, ◌≡◌, ℕ, ◌+◌, ◌<◌, ◌≤◌, min, List, ◌++◌, length, get_or, take, replicate, sym, ◌∙◌, ⊎_elim, arith}
+use Rattle.std.proofs.Math.Seq.{take-append-add}
 use denote.Struct.Record.{values_one}
-use Rattle.std.proofs.lemmas.List.{length-take, length-set, length-replicate, get_or-replicate, get_or_append_left, get_or-take, get_or_past, get_or-set_same, get_or-set_other, ext_get_or}
-use Rattle.std.proofs.lemmas.Bool.{cases_lt, cases_eq}
+use Rattle.std.proofs.lemmas.List.{drop-replicate, take-replicate, length-take, get_or_append_left, get_or-take, get_or_past, ext_get_or}
+use Rattle.std.proofs.lemmas.Bool.{cases_lt}
 use Rattle.ei.specs.contracts.text.Text.{struct, the_propositions}
 use Rattle.ei.specs.declared.text.Text.{Text}
 use Rattle.ei.specs.Texts.{text_bytes, text_of, padded, padded_long, padded_blank, ReadAsMade, MadeAsRead}
@@ -18,36 +19,13 @@ within n bs k h w = get_or-take n (bs ++ replicate n 0) k 0 h ∙ get_or_append_
 padded_at : (n : ℕ) (bs : List ℕ) (k : ℕ) → k < n → get_or (padded n bs) k 0 ≡ get_or bs k 0
 padded_at n bs k h = ⊎_elim (within n bs k h) (λ past. padded_blank n bs k (omega arith) ∙ sym (get_or_past bs k 0 past)) (cases_lt k (length bs))
 
-pub padded_none : (n : ℕ) → replicate n 0 ≡ padded n []
-padded_none n = ext_get_or 0 (replicate n 0) (padded n []) (length-replicate {A = ℕ} n 0 ∙ sym (padded_long n [])) (λ k h. get_or-replicate n k 0 0 (omega (arith, length-replicate {A = ℕ} n 0)) ∙ sym (padded_at n [] k (omega (arith, length-replicate {A = ℕ} n 0))))
-
--- one byte more
-pub padded_more : (n : ℕ) (bs : List ℕ) (i : ℕ) → i < n → i < length bs → set (padded n (take i bs)) i (get_or bs i 0) ≡ padded n (take (i + 1) bs)
-padded_more n bs i h w = ext_get_or 0 before after long (λ k l. ⊎_elim (at_i k) (λ ne. ⊎_elim (below k ne) (above k ne (omega (arith, long_before))) (cases_lt k i)) (cases_eq k i))
+-- bytes written over the front of zeros
+pub padded_front : (n : ℕ) (bs : List ℕ) → length bs ≤ n → bs ++ drop (length bs) (replicate n 0) ≡ padded n bs
+unfolding padded
+padded_front n bs h = ap (λ l. bs ++ l) (drop-replicate (length bs) n 0 ∙ sym (take-replicate (n - length bs) n 0 (omega arith))) ∙ sym (ap (λ k. take k (bs ++ replicate n 0)) whole ∙ take-append-add bs (replicate n 0) (n - length bs))
   where
-    before : List ℕ
-    before = set (padded n (take i bs)) i (get_or bs i 0)
-
-    after : List ℕ
-    after = padded n (take (i + 1) bs)
-
-    long_before : length before ≡ n
-    long_before = length-set (padded n (take i bs)) i (get_or bs i 0) ∙ padded_long n (take i bs)
-
-    long : length before ≡ length after
-    long = long_before ∙ sym (padded_long n (take (i + 1) bs))
-
-    other : (k : ℕ) → k ≢ i → k < n → get_or before k 0 ≡ get_or (take i bs) k 0
-    other k ne l = get_or-set_other (padded n (take i bs)) i k (get_or bs i 0) 0 ne ∙ padded_at n (take i bs) k l
-
-    at_i : (k : ℕ) → k ≡ i → get_or before k 0 ≡ get_or after k 0
-    at_i k e = subst (λ (j : ℕ). get_or before j 0 ≡ get_or after j 0) (sym e) (get_or-set_same (padded n (take i bs)) i (get_or bs i 0) 0 (omega (arith, padded_long n (take i bs))) ∙ sym (padded_at n (take (i + 1) bs) i h ∙ get_or-take (i + 1) bs i 0 (omega arith)))
-
-    below : (k : ℕ) → k ≢ i → k < i → get_or before k 0 ≡ get_or after k 0
-    below k ne l = other k ne (omega arith) ∙ (get_or-take i bs k 0 l ∙ sym (padded_at n (take (i + 1) bs) k (omega arith) ∙ get_or-take (i + 1) bs k 0 (omega arith)))
-
-    above : (k : ℕ) → k ≢ i → k < n → i ≤ k → get_or before k 0 ≡ get_or after k 0
-    above k ne l le = other k ne l ∙ (get_or_past (take i bs) k 0 (omega (arith, length-take i bs)) ∙ sym (padded_at n (take (i + 1) bs) k l ∙ get_or_past (take (i + 1) bs) k 0 (omega (arith, length-take (i + 1) bs))))
+    whole : n ≡ length bs + (n - length bs)
+    whole = omega (arith, h)
 
 pub read_as_made : ReadAsMade
 unfolding text_of

@@ -1,5 +1,6 @@
 -- The numbers of the protocol's enums.
-use Rattle.std.specs.Prelude.{ℕ}
+use Rattle.std.specs.Prelude.{◌≡◌, ℕ, ◌≢◌, Result, MatchResult}
+use Rattle.ei.specs.declared.enums.NoSuchCase.{NoSuchCase}
 use Rattle.ei.specs.declared.enums.ButtonState.{ButtonState}
 use Rattle.ei.specs.declared.enums.ButtonState.TheVariants as ButtonStateCases
 use Rattle.ei.specs.declared.enums.KeyState.{KeyState}
@@ -33,3 +34,7 @@ disconnect_reason DisconnectReasonCases.Mode = 2
 disconnect_reason DisconnectReasonCases.Protocol = 3
 disconnect_reason DisconnectReasonCases.Value = 4
 disconnect_reason DisconnectReasonCases.Transport = 5
+
+-- the answer is the case of a number; where no case has it, the number comes back
+abbrev pub CaseOf : {X : Type 0} → (X → ℕ) → ℕ → Result X NoSuchCase → Type 0
+CaseOf {X} number n r = MatchResult r (λ x. number x ≡ n) (λ e. (e.0 ≡ n) × ((x : X) → number x ≢ n))

@@ -6,13 +6,13 @@ use crate::set::CapabilitySet;
 // What a device can do, one for each interface that a device may list; also the kind of an interface object.
 #[derive(Clone, Copy, PartialEq, Eq, Debug)]
 pub enum DeviceCapability {
-    Pointer,
-    PointerAbsolute,
-    Keyboard,
-    Touch,
-    Scroll,
-    Button,
-    Text,
+    Pointer = 0,
+    PointerAbsolute = 1,
+    Keyboard = 2,
+    Touch = 3,
+    Scroll = 4,
+    Button = 5,
+    Text = 6,
 }
 
 impl DeviceCapability {
@@ -32,15 +32,7 @@ impl DeviceCapability {
         ensures value { result ≡ index_of self }
         ensures below { result < 7 }
     {
-        match self {
-            DeviceCapability::Pointer => 0,
-            DeviceCapability::PointerAbsolute => 1,
-            DeviceCapability::Keyboard => 2,
-            DeviceCapability::Touch => 3,
-            DeviceCapability::Scroll => 4,
-            DeviceCapability::Button => 5,
-            DeviceCapability::Text => 6,
-        }
+        self as usize
     }
 
     // The protocol's name of the interface.
@@ -75,7 +67,8 @@ impl DeviceCapability {
     }
 }
 
-// The mask by which a seat's server knows each capability; 0 until it is set.
+// The mask by which a seat's server knows each capability; 0 until it is set. It shares two indexings with a device's interface list, whose
+// entries have rules of their own, so a common type would be no plainer.
 #[derive(Clone, Copy)]
 pub struct CapabilityMap {
     masks: [u64; 7],
@@ -104,12 +97,10 @@ impl CapabilityMap {
     pub fn mask_of(&self, wanted: CapabilitySet) -> u64
         ensures { result ≡ mask_of self.now wanted.bits }
     {
-        let mut mask = 0;
-        for capability in DeviceCapability::ALL {
-            if wanted.contains(capability) {
-                mask |= self.get(capability);
-            }
-        }
-        mask
+        DeviceCapability::ALL
+            .iter()
+            .filter(|capability| wanted.contains(**capability))
+            .map(|capability| self.get(*capability))
+            .fold(0, |joined, mask| joined | mask)
     }
 }

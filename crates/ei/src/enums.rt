@@ -1,111 +1,127 @@
 // The protocol's enums. Each case has the number that stands for it on the wire.
-ghost use Rattle.std.specs.Prelude.{◌≡◌, ℕ, MatchOption, ◌≢◌};
-ghost use Rattle.ei.specs.Numbers.{button_state, device_type, disconnect_reason, key_state, keymap_type};
+ghost use Rattle.std.specs.Prelude.{◌≡◌};
+ghost use Rattle.ei.specs.Numbers.{button_state, device_type, disconnect_reason, key_state, keymap_type, CaseOf};
 
-// An enum of the protocol, by its cases' numbers.
-pub trait Numbered: Sized {
-    ghost code: { Self → ℕ };
-
-    fn number(self) -> u32
-        ensures { result ≡ code self };
-
-    // The case of a number; none where no case has it.
-    fn from_number(number: u32) -> Option<Self>
-        ensures { MatchOption result ((x : Self) → code x ≢ number) (λ x. code x ≡ number) };
-}
+// A number that no case of an enum has.
+#[derive(Clone, Copy, PartialEq, Eq, Debug)]
+pub struct NoSuchCase(pub u32);
 
 // Whether a button is down.
-#[derive(Clone, Copy)]
+#[derive(Clone, Copy, PartialEq, Eq, Debug)]
 pub enum ButtonState {
     Released = 0,
     Press = 1,
 }
 
-impl Numbered for ButtonState {
-    ghost code = { button_state };
+impl From<ButtonState> for u32 {
+    ghost from_gives = { λ state number. number ≡ button_state state };
 
-    fn number(self) -> u32 {
-        self as u32
+    fn from(state: ButtonState) -> u32 {
+        state as u32
     }
+}
 
-    fn from_number(number: u32) -> Option<ButtonState> {
+impl TryFrom<u32> for ButtonState {
+    type Error = NoSuchCase;
+
+    ghost try_from_gives = { CaseOf button_state };
+
+    fn try_from(number: u32) -> Result<ButtonState, NoSuchCase> {
         match number {
-            0 => Some(ButtonState::Released),
-            1 => Some(ButtonState::Press),
-            _ => None,
+            0 => Ok(ButtonState::Released),
+            1 => Ok(ButtonState::Press),
+            _ => Err(NoSuchCase(number)),
         }
     }
 }
 
 // Whether a key is down.
-#[derive(Clone, Copy)]
+#[derive(Clone, Copy, PartialEq, Eq, Debug)]
 pub enum KeyState {
     Released = 0,
     Press = 1,
 }
 
-impl Numbered for KeyState {
-    ghost code = { key_state };
+impl From<KeyState> for u32 {
+    ghost from_gives = { λ state number. number ≡ key_state state };
 
-    fn number(self) -> u32 {
-        self as u32
+    fn from(state: KeyState) -> u32 {
+        state as u32
     }
+}
 
-    fn from_number(number: u32) -> Option<KeyState> {
+impl TryFrom<u32> for KeyState {
+    type Error = NoSuchCase;
+
+    ghost try_from_gives = { CaseOf key_state };
+
+    fn try_from(number: u32) -> Result<KeyState, NoSuchCase> {
         match number {
-            0 => Some(KeyState::Released),
-            1 => Some(KeyState::Press),
-            _ => None,
+            0 => Ok(KeyState::Released),
+            1 => Ok(KeyState::Press),
+            _ => Err(NoSuchCase(number)),
         }
     }
 }
 
 // How a keymap is to be read.
-#[derive(Clone, Copy)]
+#[derive(Clone, Copy, PartialEq, Eq, Debug)]
 pub enum KeymapType {
     Xkb = 1,
 }
 
-impl Numbered for KeymapType {
-    ghost code = { keymap_type };
+impl From<KeymapType> for u32 {
+    ghost from_gives = { λ kind number. number ≡ keymap_type kind };
 
-    fn number(self) -> u32 {
-        self as u32
+    fn from(kind: KeymapType) -> u32 {
+        kind as u32
     }
+}
 
-    fn from_number(number: u32) -> Option<KeymapType> {
+impl TryFrom<u32> for KeymapType {
+    type Error = NoSuchCase;
+
+    ghost try_from_gives = { CaseOf keymap_type };
+
+    fn try_from(number: u32) -> Result<KeymapType, NoSuchCase> {
         match number {
-            1 => Some(KeymapType::Xkb),
-            _ => None,
+            1 => Ok(KeymapType::Xkb),
+            _ => Err(NoSuchCase(number)),
         }
     }
 }
 
 // Whether a device stands for input on a screen, or for a device that could be plugged in.
-#[derive(Clone, Copy)]
+#[derive(Clone, Copy, PartialEq, Eq, Debug)]
 pub enum DeviceType {
     Virtual = 1,
     Physical = 2,
 }
 
-impl Numbered for DeviceType {
-    ghost code = { device_type };
+impl From<DeviceType> for u32 {
+    ghost from_gives = { λ kind number. number ≡ device_type kind };
 
-    fn number(self) -> u32 {
-        self as u32
+    fn from(kind: DeviceType) -> u32 {
+        kind as u32
     }
+}
 
-    fn from_number(number: u32) -> Option<DeviceType> {
+impl TryFrom<u32> for DeviceType {
+    type Error = NoSuchCase;
+
+    ghost try_from_gives = { CaseOf device_type };
+
+    fn try_from(number: u32) -> Result<DeviceType, NoSuchCase> {
         match number {
-            1 => Some(DeviceType::Virtual),
-            2 => Some(DeviceType::Physical),
-            _ => None,
+            1 => Ok(DeviceType::Virtual),
+            2 => Ok(DeviceType::Physical),
+            _ => Err(NoSuchCase(number)),
         }
     }
 }
 
 // Why the server ended the connection; all but the first are errors.
-#[derive(Clone, Copy)]
+#[derive(Clone, Copy, PartialEq, Eq, Debug)]
 pub enum DisconnectReason {
     Disconnected = 0,
     Error = 1,
@@ -115,22 +131,28 @@ pub enum DisconnectReason {
     Transport = 5,
 }
 
-impl Numbered for DisconnectReason {
-    ghost code = { disconnect_reason };
+impl From<DisconnectReason> for u32 {
+    ghost from_gives = { λ reason number. number ≡ disconnect_reason reason };
 
-    fn number(self) -> u32 {
-        self as u32
+    fn from(reason: DisconnectReason) -> u32 {
+        reason as u32
     }
+}
 
-    fn from_number(number: u32) -> Option<DisconnectReason> {
+impl TryFrom<u32> for DisconnectReason {
+    type Error = NoSuchCase;
+
+    ghost try_from_gives = { CaseOf disconnect_reason };
+
+    fn try_from(number: u32) -> Result<DisconnectReason, NoSuchCase> {
         match number {
-            0 => Some(DisconnectReason::Disconnected),
-            1 => Some(DisconnectReason::Error),
-            2 => Some(DisconnectReason::Mode),
-            3 => Some(DisconnectReason::Protocol),
-            4 => Some(DisconnectReason::Value),
-            5 => Some(DisconnectReason::Transport),
-            _ => None,
+            0 => Ok(DisconnectReason::Disconnected),
+            1 => Ok(DisconnectReason::Error),
+            2 => Ok(DisconnectReason::Mode),
+            3 => Ok(DisconnectReason::Protocol),
+            4 => Ok(DisconnectReason::Value),
+            5 => Ok(DisconnectReason::Transport),
+            _ => Err(NoSuchCase(number)),
         }
     }
 }

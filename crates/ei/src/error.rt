@@ -3,24 +3,24 @@ ghost use Rattle.ei.specs.Refusals.{number_of};
 
 use std::fmt;
 
-// Why a call is refused. The first seven are faults of the server, the others want of room or a wrong handle.
+// Why a call is refused, with its number. The first seven are faults of the server, the others want of room or a wrong handle.
 #[derive(Clone, Copy, PartialEq, Eq, Debug)]
 pub enum EventError {
-    DeviceEventBeforeDone,
-    DeviceSetupEventAfterDone,
-    SeatSetupEventAfterDone,
-    SeatEventBeforeDone,
-    NoDeviceType,
-    UnexpectedHandshakeEvent,
-    UnknownCapabilityInterface,
-    LongText,
-    StoreFull,
-    TableFull,
-    HandlesUsedUp,
-    HostFull,
-    NoSuchHandle,
-    HandleBusy,
-    RegionsFull,
+    DeviceEventBeforeDone = 1,
+    DeviceSetupEventAfterDone = 2,
+    SeatSetupEventAfterDone = 3,
+    SeatEventBeforeDone = 4,
+    NoDeviceType = 5,
+    UnexpectedHandshakeEvent = 6,
+    UnknownCapabilityInterface = 7,
+    LongText = 8,
+    StoreFull = 9,
+    TableFull = 10,
+    HandlesUsedUp = 11,
+    HostFull = 12,
+    NoSuchHandle = 13,
+    HandleBusy = 14,
+    RegionsFull = 15,
 }
 
 impl EventError {
@@ -28,23 +28,7 @@ impl EventError {
     pub fn number(self) -> u8
         ensures { result ≡ number_of self }
     {
-        match self {
-            EventError::DeviceEventBeforeDone => 1,
-            EventError::DeviceSetupEventAfterDone => 2,
-            EventError::SeatSetupEventAfterDone => 3,
-            EventError::SeatEventBeforeDone => 4,
-            EventError::NoDeviceType => 5,
-            EventError::UnexpectedHandshakeEvent => 6,
-            EventError::UnknownCapabilityInterface => 7,
-            EventError::LongText => 8,
-            EventError::StoreFull => 9,
-            EventError::TableFull => 10,
-            EventError::HandlesUsedUp => 11,
-            EventError::HostFull => 12,
-            EventError::NoSuchHandle => 13,
-            EventError::HandleBusy => 14,
-            EventError::RegionsFull => 15,
-        }
+        self as u8
     }
 }
 

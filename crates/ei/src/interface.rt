@@ -1,10 +1,12 @@
-// A type for each interface that a device may have, and the trait that they share.
+// A type for the objects of each interface that a device may have, and the trait that they share.
 ghost use Rattle.std.specs.Prelude.{◌≡◌, ℕ};
-ghost use Rattle.ei.specs.Capabilities.{interface_name};
 ghost use Rattle.ei.specs.declared.capability.DeviceCapability.{DeviceCapability as Capability};
-ghost use Rattle.ei.specs.declared.capability.DeviceCapability.TheVariants as capabilities;
+ghost use Rattle.ei.specs.Capabilities.{interface_name};
 
 use crate::capability::DeviceCapability;
+use std::marker::PhantomData;
+
+pub mod kinds;
 
 // An interface, as the type of its objects.
 pub trait Interface: Sized {
@@ -32,205 +34,66 @@ pub trait Interface: Sized {
         ensures { result ≡ numbered self.now };
 }
 
+// A kind of interface, as a type.
+pub trait InterfaceKind {
+    ghost kind: { Capability };
+
+    // The protocol's name of the interface.
+    const NAME: &'static str;
+
+    fn interface_name() -> &'static str
+        ensures { result.now ≡ interface_name kind };
+
+    fn capability() -> DeviceCapability
+        ensures { result ≡ kind };
+}
+
+// An object of an interface of kind K.
 #[derive(Clone, Copy)]
-pub struct Pointer(u64);
+pub struct InterfaceObject<K> {
+    number: u64,
+    kind: PhantomData<K>,
+}
 
-impl Interface for Pointer {
-    ghost kind = { capabilities.Pointer };
+impl<K: InterfaceKind> Interface for InterfaceObject<K> {
+    ghost kind = { K.kind };
 
-    ghost numbered = { λ o. o.0 };
+    ghost numbered = { λ o. o.number };
 
-    const NAME: &'static str = "ei_pointer";
+    const NAME: &'static str = K::NAME;
 
     const CLIENT_SIDE: bool = true;
 
     fn interface_name() -> &'static str {
-        Self::NAME
+        K::interface_name()
     }
 
     fn capability() -> DeviceCapability {
-        DeviceCapability::Pointer
+        K::capability()
     }
 
-    fn from_number(number: u64) -> Pointer {
-        Pointer(number)
-    }
-
-    fn number(&self) -> u64 {
-        self.0
-    }
-}
-
-#[derive(Clone, Copy)]
-pub struct PointerAbsolute(u64);
-
-impl Interface for PointerAbsolute {
-    ghost kind = { capabilities.PointerAbsolute };
-
-    ghost numbered = { λ o. o.0 };
-
-    const NAME: &'static str = "ei_pointer_absolute";
-
-    const CLIENT_SIDE: bool = true;
-
-    fn interface_name() -> &'static str {
-        Self::NAME
-    }
-
-    fn capability() -> DeviceCapability {
-        DeviceCapability::PointerAbsolute
-    }
-
-    fn from_number(number: u64) -> PointerAbsolute {
-        PointerAbsolute(number)
+    fn from_number(number: u64) -> InterfaceObject<K> {
+        InterfaceObject {
+            number,
+            kind: PhantomData,
+        }
     }
 
     fn number(&self) -> u64 {
-        self.0
+        self.number
     }
 }
 
-#[derive(Clone, Copy)]
-pub struct Keyboard(u64);
+pub type Pointer = InterfaceObject<kinds::Pointer>;
 
-impl Interface for Keyboard {
-    ghost kind = { capabilities.Keyboard };
+pub type PointerAbsolute = InterfaceObject<kinds::PointerAbsolute>;
 
-    ghost numbered = { λ o. o.0 };
+pub type Keyboard = InterfaceObject<kinds::Keyboard>;
 
-    const NAME: &'static str = "ei_keyboard";
+pub type Touchscreen = InterfaceObject<kinds::Touchscreen>;
 
-    const CLIENT_SIDE: bool = true;
+pub type Scroll = InterfaceObject<kinds::Scroll>;
 
-    fn interface_name() -> &'static str {
-        Self::NAME
-    }
+pub type Button = InterfaceObject<kinds::Button>;
 
-    fn capability() -> DeviceCapability {
-        DeviceCapability::Keyboard
-    }
-
-    fn from_number(number: u64) -> Keyboard {
-        Keyboard(number)
-    }
-
-    fn number(&self) -> u64 {
-        self.0
-    }
-}
-
-#[derive(Clone, Copy)]
-pub struct Touchscreen(u64);
-
-impl Interface for Touchscreen {
-    ghost kind = { capabilities.Touch };
-
-    ghost numbered = { λ o. o.0 };
-
-    const NAME: &'static str = "ei_touchscreen";
-
-    const CLIENT_SIDE: bool = true;
-
-    fn interface_name() -> &'static str {
-        Self::NAME
-    }
-
-    fn capability() -> DeviceCapability {
-        DeviceCapability::Touch
-    }
-
-    fn from_number(number: u64) -> Touchscreen {
-        Touchscreen(number)
-    }
-
-    fn number(&self) -> u64 {
-        self.0
-    }
-}
-
-#[derive(Clone, Copy)]
-pub struct Scroll(u64);
-
-impl Interface for Scroll {
-    ghost kind = { capabilities.Scroll };
-
-    ghost numbered = { λ o. o.0 };
-
-    const NAME: &'static str = "ei_scroll";
-
-    const CLIENT_SIDE: bool = true;
-
-    fn interface_name() -> &'static str {
-        Self::NAME
-    }
-
-    fn capability() -> DeviceCapability {
-        DeviceCapability::Scroll
-    }
-
-    fn from_number(number: u64) -> Scroll {
-        Scroll(number)
-    }
-
-    fn number(&self) -> u64 {
-        self.0
-    }
-}
-
-#[derive(Clone, Copy)]
-pub struct Button(u64);
-
-impl Interface for Button {
-    ghost kind = { capabilities.Button };
-
-    ghost numbered = { λ o. o.0 };
-
-    const NAME: &'static str = "ei_button";
-
-    const CLIENT_SIDE: bool = true;
-
-    fn interface_name() -> &'static str {
-        Self::NAME
-    }
-
-    fn capability() -> DeviceCapability {
-        DeviceCapability::Button
-    }
-
-    fn from_number(number: u64) -> Button {
-        Button(number)
-    }
-
-    fn number(&self) -> u64 {
-        self.0
-    }
-}
-
-#[derive(Clone, Copy)]
-pub struct Text(u64);
-
-impl Interface for Text {
-    ghost kind = { capabilities.Text };
-
-    ghost numbered = { λ o. o.0 };
-
-    const NAME: &'static str = "ei_text";
-
-    const CLIENT_SIDE: bool = true;
-
-    fn interface_name() -> &'static str {
-        Self::NAME
-    }
-
-    fn capability() -> DeviceCapability {
-        DeviceCapability::Text
-    }
-
-    fn from_number(number: u64) -> Text {
-        Text(number)
-    }
-
-    fn number(&self) -> u64 {
-        self.0
-    }
-}
+pub type Text = InterfaceObject<kinds::Text>;

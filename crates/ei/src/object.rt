@@ -10,6 +10,7 @@ pub struct Object {
 }
 
 impl Object {
+    // The derived comparison, with a promise: the derive writes it and says nothing of it.
     pub fn same(&self, other: &Object) -> bool
         ensures { Decides result (self.now ≡ other.now) }
     {

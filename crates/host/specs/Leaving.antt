@@ -1,5 +1,4 @@
--- What a call does to the three things that a host shows: its clock, the notes that wait and the places to spare.
--- The clock is what the call leaves alone: the reading, or all the readings to come.
+-- What a host shows, and what a call does to that.
 use Rattle.std.specs.Prelude.{◌≡◌, ℕ, ◌-◌, Bool, cond, List, [], ◌∷◌, ◌++◌, length, drop, Some, None, Option, nat_lt}
 use Rattle.host.specs.declared.Note.{Note}
 
@@ -7,15 +6,28 @@ use Rattle.host.specs.declared.Note.{Note}
 abbrev pub places : ℕ
 places = 64
 
+-- what a host shows
+pub record HostState : Type 0 where
+  -- what the clock will answer next
+  pub reading : ℕ
+  -- the notes that wait, oldest first
+  pub notes : List Note
+  -- how many more notes can wait
+  pub spare : ℕ
+
+-- the host was asked for the time: what the next reading will be is open, and nothing else
+abbrev pub WaitsOn : HostState → HostState → Type 0
+WaitsOn before after = (after.notes ≡ before.notes) × (after.spare ≡ before.spare)
+
 -- the host was asked to take a note, and answered whether it did
-pub record Leaves {Host Clock : Type 0} (clock : Host → Clock) (notes : Host → List Note) (spare : Host → ℕ) (note : Note) (taken : Bool) (before after : Host) : Type 0 where
+pub record Leaves (note : Note) (taken : Bool) (before after : HostState) : Type 0 where
   -- yes where a place is to spare
-  pub answer : taken ≡ nat_lt 0 (spare before)
+  pub answer : taken ≡ nat_lt 0 before.spare
   -- on yes the note joins the end, on no the notes stay
-  pub joined : notes after ≡ cond (nat_lt 0 (spare before)) (notes before ++ (note ∷ [])) (notes before)
+  pub joined : after.notes ≡ cond (nat_lt 0 before.spare) (before.notes ++ (note ∷ [])) before.notes
   -- one place fewer, and none where there was none
-  pub fewer : spare after ≡ spare before - 1
-  pub timeless : clock after ≡ clock before
+  pub fewer : after.spare ≡ before.spare - 1
+  pub timeless : after.reading ≡ before.reading
 
 -- the first of a list
 abbrev pub oldest : List Note → Option Note
@@ -23,10 +35,10 @@ oldest [] = None
 oldest (n ∷ _) = Some n
 
 -- the program asked for the oldest waiting note
-pub record Takes {Host Clock : Type 0} (clock : Host → Clock) (notes : Host → List Note) (spare : Host → ℕ) (taken : Option Note) (before after : Host) : Type 0 where
-  pub answer : taken ≡ oldest (notes before)
+pub record Takes (taken : Option Note) (before after : HostState) : Type 0 where
+  pub answer : taken ≡ oldest before.notes
   -- the others wait on, in their order
-  pub rest : notes after ≡ drop 1 (notes before)
+  pub rest : after.notes ≡ drop 1 before.notes
   -- the place of the note is to spare again
-  pub freed : spare after ≡ places - length (notes after)
-  pub timeless : clock after ≡ clock before
+  pub freed : after.spare ≡ places - length after.notes
+  pub timeless : after.reading ≡ before.reading

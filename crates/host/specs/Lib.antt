@@ -1,4 +1,4 @@
 pub mod Leaving
-pub mod Waiting
+pub mod Reading
 pub mod Spelling
 pub mod Showing

@@ -1,49 +1,28 @@
 -- What each host shows.
-use Rattle.std.specs.Prelude.{ℕ, max, List, [], ◌∷◌}
+use Rattle.std.specs.Prelude.{◌≡◌, ℕ, ◌-◌, max, List, [], ◌∷◌, length}
 use Rattle.std.specs.VecDeque.{deque_items}
-use Rattle.host.specs.Waiting.{waiting_in, spare_in}
-use Rattle.host.specs.declared.Note.{Note}
-use Rattle.host.specs.declared.kept.KeptHost.{KeptHost}
+use Rattle.host.specs.Leaving.{HostState, places}
+use Rattle.host.specs.Reading.{first_of}
+use Rattle.host.specs.declared.kept.KeptClock.{KeptClock}
+use Rattle.host.specs.declared.notes.NotesHost.{NotesHost}
 use Rattle.host.specs.declared.steady.SteadyHost.{SteadyHost}
-use Rattle.host.specs.declared.tape.TapeHost.{TapeHost}
+use Rattle.host.specs.declared.tape.Tape.{Tape}
 
-abbrev pub kept_reading : KeptHost → ℕ
-kept_reading h = h.reading
+-- the readings that a clock has to come; the last of them comes for ever
+abbrev pub kept : KeptClock → List ℕ
+kept c = c.reading ∷ []
 
-abbrev pub kept_notes : KeptHost → List Note
-kept_notes h = waiting_in h.notes
+abbrev pub tape : Tape → List ℕ
+tape t = deque_items t.readings
 
-abbrev pub kept_spare : KeptHost → ℕ
-kept_spare h = spare_in h.notes
+-- a host with a clock and places for notes shows the first reading to come
+abbrev pub shown : {Clock : Type 0} → (Clock → List ℕ) → NotesHost Clock → HostState
+shown to_come h = record { reading = first_of (to_come h.clock); notes = deque_items h.waiting; spare = places - length (deque_items h.waiting) }
 
--- the readings to come; the last of them comes for ever
-abbrev pub tape : TapeHost → List ℕ
-tape h = deque_items h.readings
+-- a steady host shows what the host below shows, and the larger of its reading and the largest that was given
+abbrev pub steadied : {Host : Type 0} → (Host → HostState) → SteadyHost Host → HostState
+steadied state h = record { reading = max (state h.below).reading h.largest; notes = (state h.below).notes; spare = (state h.below).spare }
 
--- the first reading to come, and 0 where there is none
-abbrev pub first_of : List ℕ → ℕ
-first_of [] = 0
-first_of (r ∷ _) = r
-
--- the readings to come after one was read: one fewer, but for the last
-abbrev pub onward : List ℕ → List ℕ
-onward [] = []
-onward (r ∷ []) = r ∷ []
-onward (_ ∷ (r ∷ rs)) = r ∷ rs
-
-abbrev pub tape_reading : TapeHost → ℕ
-tape_reading h = first_of (tape h)
-
-abbrev pub tape_notes : TapeHost → List Note
-tape_notes h = waiting_in h.notes
-
-abbrev pub tape_spare : TapeHost → ℕ
-tape_spare h = spare_in h.notes
-
--- the larger of what the host below reads and the largest reading that was given
-abbrev pub steadied : {Host : Type 0} → (Host → ℕ) → SteadyHost Host → ℕ
-steadied reading h = max (reading h.below) h.largest
-
--- what the host below shows
-abbrev pub from_below : {Host Shown : Type 0} → (Host → Shown) → SteadyHost Host → Shown
-from_below shown h = shown h.below
+-- the largest reading that was given stays, and below what stays there
+abbrev pub LargestStays : {Host : Type 0} → (Host → Host → Type 0) → SteadyHost Host → SteadyHost Host → Type 0
+LargestStays Stays before after = (after.largest ≡ before.largest) × Stays before.below after.below

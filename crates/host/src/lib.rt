@@ -1,21 +1,24 @@
 // What a converter asks of the program that runs it: the time, and a place for a note.
 #![tactic(auto)]
 
-ghost use Rattle.std.specs.Prelude.{◌≡◌, ℕ, List, Some};
-ghost use Rattle.host.specs.Leaving.{Leaves};
+ghost use Rattle.std.specs.Prelude.{◌≡◌, List, Some};
+ghost use Rattle.host.specs.Leaving.{HostState, WaitsOn, Leaves};
 ghost use Rattle.host.specs.Spelling.{spelled};
 ghost use Rattle.host.specs.declared.Note.{Note};
 
 use std::fmt;
 
+mod clock;
 mod kept;
 mod notes;
 mod steady;
 mod tape;
 
-pub use kept::KeptHost;
+pub use clock::Clock;
+pub use kept::{KeptClock, KeptHost};
+pub use notes::NotesHost;
 pub use steady::SteadyHost;
-pub use tape::TapeHost;
+pub use tape::{Tape, TapeHost};
 
 // What a converter leaves for the program to do.
 #[derive(Clone, Copy, PartialEq, Eq, Debug)]
@@ -42,30 +45,43 @@ impl fmt::Display for Note {
 
 // A clock and a bounded list of waiting notes.
 pub trait Host {
-    // What the clock will answer next.
-    ghost reading: { Self → ℕ };
+    // The next reading, the notes that wait, and how many more can wait.
+    ghost state: { Self → HostState };
 
-    // The notes that wait, oldest first.
-    ghost notes: { Self → List Note };
-
-    // How many more notes can wait.
-    ghost spare: { Self → ℕ };
+    // What a left note leaves as it was, besides the reading.
+    ghost stays: { Self → Self → Type 0 };
 
     // The reading. What the next one will be is open.
     fn now(&mut self) -> u64
-        ensures value { result ≡ reading self.old }
-        ensures notes { notes self.new ≡ notes self.old }
-        ensures spare { spare self.new ≡ spare self.old };
+        ensures value { result ≡ (state self.old).reading }
+        ensures waits { WaitsOn (state self.old) (state self.new) };
 
-    // Leaves the answer to a ping, and answers whether there was a place for it.
+    // Leaves a note, and answers whether there was a place for it.
+    fn leave(&mut self, note: Note) -> bool
+        ensures left { Leaves note result (state self.old) (state self.new) }
+        ensures rest { stays self.old self.new };
+
+    // Leaves the answer to a ping.
     fn pong(&mut self, ping: u64, data: u64) -> bool
-        ensures { Leaves reading notes spare (Note.Pong ping «data») result self.old self.new };
+        ensures left { Leaves (Note.Pong ping «data») result (state self.old) (state self.new) }
+        ensures rest { stays self.old self.new }
+    {
+        self.leave(Note::Pong { ping, data })
+    }
 
-    // Leaves a ticket to be run, and answers whether there was a place for it.
+    // Leaves a ticket to be run.
     fn run(&mut self, ticket: u32, data: u64) -> bool
-        ensures { Leaves reading notes spare (Note.Run ticket «data») result self.old self.new };
+        ensures left { Leaves (Note.Run ticket «data») result (state self.old) (state self.new) }
+        ensures rest { stays self.old self.new }
+    {
+        self.leave(Note::Run { ticket, data })
+    }
 
-    // Leaves a seat's capabilities to be bound, and answers whether there was a place for it.
+    // Leaves a seat's capabilities to be bound.
     fn bind(&mut self, seat: u64, mask: u64) -> bool
-        ensures { Leaves reading notes spare (Note.Bind seat mask) result self.old self.new };
+        ensures left { Leaves (Note.Bind seat mask) result (state self.old) (state self.new) }
+        ensures rest { stays self.old self.new }
+    {
+        self.leave(Note::Bind { seat, mask })
+    }
 }

@@ -1,7 +1,7 @@
 // A host whose readings never fall, over any other.
 ghost use Rattle.std.specs.Prelude.{◌≡◌, ◌≤◌};
-ghost use Rattle.host.specs.Leaving.{Leaves};
-ghost use Rattle.host.specs.Showing.{steadied, from_below};
+ghost use Rattle.host.specs.Leaving.{WaitsOn};
+ghost use Rattle.host.specs.Showing.{steadied, LargestStays};
 
 use crate::{Host, Note};
 
@@ -30,44 +30,25 @@ impl<H: Host> SteadyHost<H> {
 }
 
 impl<H: Host> Host for SteadyHost<H> {
-    // The larger of the reading below and the largest that was given.
-    ghost reading = { steadied H.Host.reading };
+    // The reading is the larger of the reading below and the largest that was given.
+    ghost state = { steadied H.state };
 
-    ghost notes = { from_below H.Host.notes };
-
-    ghost spare = { from_below H.Host.spare };
+    // The largest reading that was given stays, and below what stays there.
+    ghost stays = { LargestStays H.stays };
 
     // What is answered becomes the largest that was given.
     fn now(&mut self) -> u64
-        ensures value { result ≡ steadied H.Host.reading self.old }
-        ensures notes { from_below H.Host.notes self.new ≡ from_below H.Host.notes self.old }
-        ensures spare { from_below H.Host.spare self.new ≡ from_below H.Host.spare self.old }
+        ensures value { result ≡ (steadied H.state self.old).reading }
+        ensures waits { WaitsOn (steadied H.state self.old) (steadied H.state self.new) }
         ensures largest { self.new.largest ≡ result }
-        ensures rises { result ≤ steadied H.Host.reading self.new }
+        ensures rises { result ≤ (steadied H.state self.new).reading }
     {
         let reading = self.below.now().max(self.largest);
         self.largest = reading;
         reading
     }
 
-    fn pong(&mut self, ping: u64, data: u64) -> bool
-        ensures leaves { Leaves (steadied H.Host.reading) (from_below H.Host.notes) (from_below H.Host.spare) (Note.Pong ping «data») result self.old self.new }
-        ensures largest { self.new.largest ≡ self.old.largest }
-    {
-        self.below.pong(ping, data)
-    }
-
-    fn run(&mut self, ticket: u32, data: u64) -> bool
-        ensures leaves { Leaves (steadied H.Host.reading) (from_below H.Host.notes) (from_below H.Host.spare) (Note.Run ticket «data») result self.old self.new }
-        ensures largest { self.new.largest ≡ self.old.largest }
-    {
-        self.below.run(ticket, data)
-    }
-
-    fn bind(&mut self, seat: u64, mask: u64) -> bool
-        ensures leaves { Leaves (steadied H.Host.reading) (from_below H.Host.notes) (from_below H.Host.spare) (Note.Bind seat mask) result self.old self.new }
-        ensures largest { self.new.largest ≡ self.old.largest }
-    {
-        self.below.bind(seat, mask)
+    fn leave(&mut self, note: Note) -> bool {
+        self.below.leave(note)
     }
 }

@@ -1,4 +1,3 @@
-pub mod Found
 pub mod Listing
 pub mod Places
 pub mod Rows

@@ -5,4 +5,3 @@ pub mod Owners
 pub mod Places
 pub mod Rows
 pub mod Seats
-pub mod Tables

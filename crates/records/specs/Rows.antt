@@ -1,6 +1,7 @@
 -- Rows by test and not by place: the first that passes, the rows with it changed, the rows without it.
 use Rattle.std.specs.Prelude.{◌≡◌, ℕ, zero, suc, ◌<◌, ◌≤◌, Bool, true, false, cond, not, List, [], ◌∷◌, length, is_some, Some, None, Option, MatchOption, ◌==◌, nat_lt}
 use Rattle.std.specs.List.{HoldsAt, AllWithin}
+use Rattle.records.specs.declared.standing.Key.{Key}
 use Rattle.records.specs.declared.standing.Standing.{Standing}
 use Rattle.records.specs.declared.standing.Standing.TheVariants.{Pending, Live, Detached}
 
@@ -23,6 +24,10 @@ module _ {X : Type 0} where
   -- the row is of this number and stands so
   abbrev pub at_number : (X → ℕ) → (X → Standing) → ℕ → Standing → X → Bool
   at_number numbered stands n s x = cond (numbered x == n) (same_standing (stands x) s) false
+
+  -- the row is the one of this key
+  abbrev pub at_key : (X → ℕ) → (X → Standing) → Key → X → Bool
+  at_key numbered stands k = at_number numbered stands k.number k.standing
 
   -- the row is the record of this handle; a pending one has none
   abbrev pub by_handle : (X → ℕ) → (X → Standing) → ℕ → X → Bool

@@ -1,9 +1,9 @@
 ghost use Rattle.std.specs.Prelude.{◌≡◌};
-ghost use Rattle.records.specs.Devices.{new_description, described, new_device, device_taken, device_stepped, with_id};
+ghost use Rattle.records.specs.Devices.{new_description, described, new_device, device_taken, device_stepped};
 
 use crate::list::{Entry, InterfaceList};
 use crate::regions::Regions;
-use crate::standing::{Handled, Head, Record, Row, Standing};
+use crate::standing::{Head, Headed, Record, Standing};
 use ei::capability::DeviceCapability;
 use ei::device::{Keymap, Region};
 use ei::enums::DeviceType;
@@ -81,21 +81,15 @@ impl Description {
             Detail::Dimensions(width, height) => self.dimensions = Some((width, height)),
             Detail::Region(region) => {
                 // the latest mapping id goes to the next region and is used up
-                self.regions.push(with_id(region, self.mapping_id));
-                self.mapping_id = None;
+                let mapping_id = self.mapping_id.take();
+                self.regions.push(Region {
+                    mapping_id,
+                    ..region
+                });
             }
             Detail::MappingId(id) => self.mapping_id = Some(id),
             Detail::Keymap(keymap) => self.keymap = Some(keymap),
         }
-    }
-}
-
-fn with_id(region: Region, id: Option<Text>) -> Region
-    ensures { result ≡ with_id id region }
-{
-    Region {
-        mapping_id: id,
-        ..region
     }
 }
 
@@ -137,25 +131,11 @@ impl DeviceRow {
     }
 }
 
-impl Row for DeviceRow {
-    ghost numbered = { λ row. row.head.number };
+impl Headed for DeviceRow {
+    ghost head_of = { λ row. row.head };
 
-    ghost stands = { λ row. row.head.standing };
-
-    fn number(&self) -> u64 {
-        self.head.number
-    }
-
-    fn standing(&self) -> Standing {
-        self.head.standing
-    }
-}
-
-impl Handled for DeviceRow {
-    ghost handled = { λ row. row.head.handle };
-
-    fn handle(&self) -> u32 {
-        self.head.handle
+    fn head(&self) -> &Head {
+        &self.head
     }
 }
 

@@ -11,6 +11,7 @@ pub struct Entry {
 }
 
 // At most one object of each interface kind, by the kind's index.
+// Kept as an array: by the project's rule of fixed memory a row is a plain value that is copied, and holds no map.
 #[derive(Clone, Copy)]
 pub struct InterfaceList {
     entries: [Option<Entry>; 7],

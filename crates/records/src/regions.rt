@@ -6,6 +6,7 @@ use ei::device::Region;
 mod shown;
 
 // At most eight regions, in the order of their arrival.
+// Kept as an array and a count: by the project's rule of fixed memory a row is a plain value that is copied, and holds no Vec.
 #[derive(Clone, Copy)]
 pub struct Regions {
     items: [Region; 8],

@@ -1,7 +1,7 @@
 ghost use Rattle.std.specs.Prelude.{◌≡◌};
 ghost use Rattle.records.specs.Seats.{new_seat, seat_set_up, seat_stepped};
 
-use crate::standing::{Handled, Head, Record, Row, Standing};
+use crate::standing::{Head, Headed, Record, Standing};
 use ei::capability::{CapabilityMap, DeviceCapability};
 use ei::text::Text;
 
@@ -48,25 +48,11 @@ impl SeatRow {
     }
 }
 
-impl Row for SeatRow {
-    ghost numbered = { λ row. row.head.number };
+impl Headed for SeatRow {
+    ghost head_of = { λ row. row.head };
 
-    ghost stands = { λ row. row.head.standing };
-
-    fn number(&self) -> u64 {
-        self.head.number
-    }
-
-    fn standing(&self) -> Standing {
-        self.head.standing
-    }
-}
-
-impl Handled for SeatRow {
-    ghost handled = { λ row. row.head.handle };
-
-    fn handle(&self) -> u32 {
-        self.head.handle
+    fn head(&self) -> &Head {
+        &self.head
     }
 }
 
@@ -79,8 +65,7 @@ impl Record for SeatRow {
         match (self.head.standing, step) {
             (Standing::Pending, SeatStep::Setup(setup)) => self.set_up(setup),
             (Standing::Pending, SeatStep::Done(handle)) => self.head.go_live(handle),
-            (Standing::Live, SeatStep::Done(_)) => self.head.detach(),
-            (Standing::Live, SeatStep::Destroyed) => self.head.detach(),
+            (Standing::Live, SeatStep::Done(_) | SeatStep::Destroyed) => self.head.detach(),
             _ => {}
         }
     }

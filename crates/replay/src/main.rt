@@ -5,7 +5,6 @@ use anyhow::anyhow;
 use converter::convert::EiEventConverter;
 use ei::error::EventError;
 use ei::event::{EiEvent, SeatAdded};
-use ei::set::CapabilitySet;
 use host::KeptHost;
 use script::{Line, parse};
 use showing::EventLine;
@@ -13,19 +12,17 @@ use std::alloc::Global;
 use std::io;
 use std::io::{BufRead, BufReader};
 
-// The session that is being run; none before the first `start`.
+// What is run: the converter of the session, none before the first `start`, and the buffer for the texts of its lines.
 #[derive(Drop)]
-enum Session {
-    None,
-    Running(EiEventConverter<KeptHost>),
+struct Replay {
+    heap: Global,
+    session: Option<EiEventConverter<KeptHost>>,
+    scratch: Vec<u8>,
 }
 
 // Prints 0 for a call that is done, else the number of its refusal.
 fn print_answer(rt: &impl Print, answer: Result<(), EventError>) -> io::Result<()> {
-    let number = match answer {
-        Ok(()) => 0,
-        Err(error) => error.number(),
-    };
+    let number = answer.map_or_else(|error| error.number(), |()| 0);
     println!(rt; "{number}")
 }
 
@@ -45,17 +42,6 @@ fn print_note(rt: &impl Print, converter: &mut EiEventConverter<KeptHost>) -> io
     }
 }
 
-fn bind(
-    converter: &mut EiEventConverter<KeptHost>,
-    handle: u32,
-    set: u64,
-) -> Result<(), EventError> {
-    match CapabilitySet::from_bits(set) {
-        Some(wanted) => converter.bind_capabilities(handle, wanted),
-        None => Err(EventError::NoSuchHandle),
-    }
-}
-
 // One line of a running session.
 fn play(
     rt: &impl Print,
@@ -63,8 +49,7 @@ fn play(
     line: Line<'_>,
 ) -> io::Result<()> {
     match line {
-        Line::Skip => Ok(()),
-        Line::Start { serial: _ } => Ok(()),
+        Line::Skip | Line::Start { .. } => Ok(()),
         Line::Reading { micros } => {
             converter.host.set_reading(micros);
             Ok(())
@@ -75,88 +60,91 @@ fn play(
             rt,
             converter.add_callback_handler(callback, ticket),
         ),
-        Line::Bind { handle, set } => print_answer(rt, bind(converter, handle, set)),
+        Line::Bind { handle, set } => print_answer(rt, converter.bind_capabilities(handle, set)),
         Line::RetireSeat { handle } => print_answer(rt, converter.retire_seat(handle)),
         Line::RetireDevice { handle } => print_answer(rt, converter.retire_device(handle)),
         Line::Event(event) => print_answer(rt, converter.handle_event(event)),
     }
 }
 
-// The last line of a session is its serial.
-fn end(rt: &impl Print, session: &Session) -> io::Result<()> {
-    match session {
-        Session::None => Ok(()),
-        Session::Running(converter) => {
-            let serial = converter.serial();
-            println!(rt; "serial {serial}")
+impl Replay {
+    fn new(heap: Global) -> Replay {
+        Replay {
+            heap,
+            session: None,
+            scratch: Vec::new(heap),
         }
     }
-}
 
-fn start(heap: Global, serial: u32) -> anyhow::Result<Session> {
-    match EiEventConverter::new(heap, KeptHost::new(heap)?, serial) {
-        Ok(converter) => Ok(Session::Running(converter)),
-        Err(_) => Err(anyhow!("no memory for the converter")),
-    }
-}
-
-// Takes one line, and says whether it could be read.
-fn take(
-    rt: &(impl Print + Eprint),
-    heap: Global,
-    session: &mut Session,
-    number: u64,
-    text: &[u8],
-    scratch: &mut Vec<u8>,
-) -> anyhow::Result<bool> {
-    let line = match parse(text, scratch) {
-        Ok(line) => line,
-        Err(malformed) => {
-            eprintln!(rt; "line {number}: {malformed}")?;
-            return Ok(false);
+    // The last line of a session is its serial.
+    fn end(&self, rt: &impl Print) -> io::Result<()> {
+        if let Some(converter) = &self.session {
+            println!(rt; "serial {}", converter.serial())?;
         }
-    };
-    if let Line::Start { serial } = line {
-        end(rt, session)?;
-        *session = start(heap, serial)?;
-        return Ok(true);
+        Ok(())
     }
-    match session {
-        Session::Running(converter) => play(rt, converter, line)?,
-        Session::None => {
-            if !matches!(line, Line::Skip) {
-                eprintln!(rt; "line {number}: no session is started")?;
+
+    fn start(&mut self, serial: u32) -> anyhow::Result<()> {
+        let Ok(converter) = EiEventConverter::new(self.heap, KeptHost::new(self.heap)?, serial)
+        else {
+            return Err(anyhow!("no memory for the converter"));
+        };
+        self.session = Some(converter);
+        Ok(())
+    }
+
+    // Takes one line, and says whether it could be read.
+    fn take(
+        &mut self,
+        rt: &(impl Print + Eprint),
+        number: u64,
+        text: &[u8],
+    ) -> anyhow::Result<bool> {
+        let line = match parse(text, &mut self.scratch) {
+            Ok(line) => line,
+            Err(malformed) => {
+                eprintln!(rt; "line {number}: {malformed}")?;
                 return Ok(false);
             }
+        };
+        if let Line::Start { serial } = line {
+            self.end(rt)?;
+            self.start(serial)?;
+            return Ok(true);
         }
+        match &mut self.session {
+            Some(converter) => play(rt, converter, line)?,
+            None => {
+                if !matches!(line, Line::Skip) {
+                    eprintln!(rt; "line {number}: no session is started")?;
+                    return Ok(false);
+                }
+            }
+        }
+        Ok(true)
     }
-    Ok(true)
 }
 
 // A line without its line feed.
 fn without_feed(line: &[u8]) -> &[u8] {
-    match line {
-        [text @ .., b'\n'] => text,
-        text => text,
-    }
+    line.strip_suffix(b"\n".as_slice()).unwrap_or(line)
 }
 
 fn run(rt: &HostRuntime, heap: Global) -> anyhow::Result<()> {
-    let mut session = Session::None;
+    let mut replay = Replay::new(heap);
     let mut reader = BufReader::new(heap, rt.stdin())?;
     let mut line = Vec::new(heap);
-    let mut scratch = Vec::new(heap);
+    // All lines are read into one buffer, where an iterator of lines would allocate each.
     for number in 1..u64::MAX {
         line.clear();
         if reader.read_until(b'\n', &mut line)? == 0 {
             break;
         }
-        let text = without_feed(&line);
-        if !take(rt, heap, &mut session, number, text, &mut scratch)? {
+        if !replay.take(rt, number, without_feed(&line))? {
             return Err(anyhow!("the session file is malformed"));
         }
     }
-    end(rt, &session)?;
+    replay.end(rt)?;
     Ok(())
 }
 

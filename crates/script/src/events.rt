@@ -1,167 +1,137 @@
 // The lines that are low-level events, by interface.
-use crate::fields::{Case, read};
+ghost use Rattle.std.specs.Prelude.{◌≡◌, IfOk};
+ghost use Rattle.script.specs.Events.{object_from, ButtonLine, CallbackLine, ConnectionLine, DeviceLine, EventLine, KeyboardLine, PointerAbsoluteLine, PointerLine, ScrollLine, SeatLine, TextLine, TouchscreenLine};
+ghost use Rattle.wording.specs.Words.{left};
+
+use crate::fields::Case;
+use crate::rest::Rest;
 use ei::capability::DeviceCapability;
 use ei::object::Object;
 use ei::proto::{
     ButtonEvent, CallbackEvent, ConnectionEvent, DeviceEvent, Event, KeyboardEvent,
     PointerAbsoluteEvent, PointerEvent, ScrollEvent, SeatEvent, TextEvent, TouchscreenEvent,
 };
-use wording::{Malformed, Words};
+use wording::Malformed;
 
 // The event of this name on this interface, with the words that follow.
 pub fn event<'a>(
     interface: &str,
     name: &str,
-    words: &mut Words,
-    scratch: &'a mut Vec<u8>,
-) -> Result<Event<'a>, Malformed> {
+    mut rest: Rest<'_, 'a>,
+) -> Result<Event<'a>, Malformed>
+    ensures { IfOk result (EventLine interface.now name.now (left rest.entry.words)) }
+{
     if interface == "connection" {
-        return connection_event(name, words, scratch);
+        return Ok(Event::Connection(connection_event(name, rest)?));
     }
-    let object = read(words)?;
-    if name == "destroyed" {
-        return destroyed(interface, object, read(words)?);
-    }
+    let object = rest.next()?;
     Ok(match interface {
-        "seat" => seat_event(object, name, words, scratch)?,
-        "device" => device_event(object, name, words, scratch)?,
-        "text" => text_event(object, name, words, scratch)?,
-        _ => textless_event(interface, object, name, words)?,
-    })
-}
-
-// An event of an interface whose events hold no text.
-fn textless_event<'a>(
-    interface: &str,
-    object: u64,
-    name: &str,
-    words: &mut Words,
-) -> Result<Event<'a>, Malformed> {
-    match interface {
-        "callback" => callback_event(object, name, words),
-        "keyboard" => keyboard_event(object, name, words),
-        "pointer" => pointer_event(object, name, words),
-        "pointer_absolute" => pointer_absolute_event(object, name, words),
-        "scroll" => scroll_event(object, name, words),
-        "button" => button_event(object, name, words),
-        "touchscreen" => touchscreen_event(object, name, words),
-        _ => Err(Malformed::UnknownWord),
-    }
-}
-
-// The end of a seat, a device or an interface object.
-fn destroyed<'a>(interface: &str, object: u64, serial: u32) -> Result<Event<'a>, Malformed> {
-    Ok(match interface {
-        "seat" => Event::Seat(object, SeatEvent::Destroyed { serial }),
-        "device" => Event::Device(object, DeviceEvent::Destroyed { serial }),
-        "keyboard" => Event::Keyboard(object, KeyboardEvent::Destroyed { serial }),
-        "pointer" => Event::Pointer(object, PointerEvent::Destroyed { serial }),
+        "callback" => Event::Callback(object, callback_event(name, &mut rest)?),
+        "seat" => Event::Seat(object, seat_event(name, rest)?),
+        "device" => Event::Device(object, device_event(name, rest)?),
+        "keyboard" => Event::Keyboard(object, keyboard_event(name, &mut rest)?),
+        "pointer" => Event::Pointer(object, pointer_event(name, &mut rest)?),
         "pointer_absolute" => Event::PointerAbsolute(
             object,
-            PointerAbsoluteEvent::Destroyed { serial },
+            pointer_absolute_event(name, &mut rest)?,
         ),
-        "scroll" => Event::Scroll(object, ScrollEvent::Destroyed { serial }),
-        "button" => Event::Button(object, ButtonEvent::Destroyed { serial }),
-        "touchscreen" => Event::Touchscreen(object, TouchscreenEvent::Destroyed { serial }),
-        "text" => Event::Text(object, TextEvent::Destroyed { serial }),
-        _ => return Err(Malformed::UnknownWord),
+        "scroll" => Event::Scroll(object, scroll_event(name, &mut rest)?),
+        "button" => Event::Button(object, button_event(name, &mut rest)?),
+        "touchscreen" => Event::Touchscreen(object, touchscreen_event(name, &mut rest)?),
+        "text" => Event::Text(object, text_event(name, rest)?),
+        _ => return Err(unknown(name, &mut rest)),
     })
+}
+
+// Why a name is refused on an interface that has no such event. The serial of a `destroyed` is read first, whatever the interface.
+fn unknown(name: &str, rest: &mut Rest<'_, '_>) -> Malformed {
+    if name == "destroyed" {
+        if let Err(malformed) = rest.next::<u32>() {
+            return malformed;
+        }
+    }
+    Malformed::UnknownWord
 }
 
 fn connection_event<'a>(
     name: &str,
-    words: &mut Words,
-    scratch: &'a mut Vec<u8>,
-) -> Result<Event<'a>, Malformed> {
-    let event = match name {
-        "seat" => ConnectionEvent::Seat { seat: read(words)? },
-        "ping" => ConnectionEvent::Ping { ping: read(words)? },
+    mut rest: Rest<'_, 'a>,
+) -> Result<ConnectionEvent<'a>, Malformed>
+    ensures { IfOk result (ConnectionLine name.now (left rest.entry.words)) }
+{
+    Ok(match name {
+        "seat" => ConnectionEvent::Seat { seat: rest.last()? },
+        "ping" => ConnectionEvent::Ping { ping: rest.last()? },
         "disconnected" => {
-            let (last_serial, Case(reason)) = read(words)?;
-            let explanation = if words.is_end() {
-                None
-            } else {
-                Some(words.text(scratch)?)
-            };
+            let (last_serial, Case(reason)) = rest.next()?;
             ConnectionEvent::Disconnected {
                 last_serial,
                 reason,
-                explanation,
+                explanation: rest.optional_text()?,
             }
         }
         "invalid_object" => {
-            let (last_serial, invalid_id) = read(words)?;
+            let (last_serial, invalid_id) = rest.last()?;
             ConnectionEvent::InvalidObject {
                 last_serial,
                 invalid_id,
             }
         }
         _ => return Err(Malformed::UnknownWord),
-    };
-    Ok(Event::Connection(event))
+    })
 }
 
-fn callback_event<'a>(
-    callback: u64,
-    name: &str,
-    words: &mut Words,
-) -> Result<Event<'a>, Malformed> {
+fn callback_event(name: &str, rest: &mut Rest<'_, '_>) -> Result<CallbackEvent, Malformed>
+    ensures { IfOk result (CallbackLine name.now (left rest.old.words)) }
+{
     match name {
-        "done" => Ok(Event::Callback(
-            callback,
-            CallbackEvent::Done {
-                callback_data: read(words)?,
-            },
-        )),
-        _ => Err(Malformed::UnknownWord),
+        "done" => Ok(CallbackEvent::Done {
+            callback_data: rest.last()?,
+        }),
+        _ => Err(unknown(name, rest)),
     }
 }
 
-fn seat_event<'a>(
-    seat: u64,
-    name: &str,
-    words: &mut Words,
-    scratch: &'a mut Vec<u8>,
-) -> Result<Event<'a>, Malformed> {
-    let event = match name {
-        "name" => SeatEvent::Name {
-            name: words.text(scratch)?,
-        },
+fn seat_event<'a>(name: &str, mut rest: Rest<'_, 'a>) -> Result<SeatEvent<'a>, Malformed>
+    ensures { IfOk result (SeatLine name.now (left rest.entry.words)) }
+{
+    Ok(match name {
+        "name" => SeatEvent::Name { name: rest.text()? },
         "capability" => {
-            let (mask, interface) = read(words)?;
+            let (mask, interface) = rest.last()?;
             SeatEvent::Capability { mask, interface }
         }
-        "done" => SeatEvent::Done,
+        "done" => {
+            rest.end()?;
+            SeatEvent::Done
+        }
         "device" => SeatEvent::Device {
-            device: read(words)?,
+            device: rest.last()?,
+        },
+        "destroyed" => SeatEvent::Destroyed {
+            serial: rest.last()?,
         },
         _ => return Err(Malformed::UnknownWord),
-    };
-    Ok(Event::Seat(seat, event))
+    })
 }
 
 // The events of a device, those that describe it first.
-fn device_event<'a>(
-    device: u64,
-    name: &str,
-    words: &mut Words,
-    scratch: &'a mut Vec<u8>,
-) -> Result<Event<'a>, Malformed> {
-    let event = match name {
-        "name" => DeviceEvent::Name {
-            name: words.text(scratch)?,
-        },
+fn device_event<'a>(name: &str, mut rest: Rest<'_, 'a>) -> Result<DeviceEvent<'a>, Malformed>
+    ensures { IfOk result (DeviceLine name.now (left rest.entry.words)) }
+{
+    Ok(match name {
+        "name" => DeviceEvent::Name { name: rest.text()? },
         "device_type" => {
-            let Case(device_type) = read(words)?;
+            let Case(device_type) = rest.last()?;
             DeviceEvent::DeviceType { device_type }
         }
         "dimensions" => {
-            let (width, height) = read(words)?;
+            let (width, height) = rest.last()?;
             DeviceEvent::Dimensions { width, height }
         }
         "region" => {
-            let (offset_x, offset_y) = read(words)?;
-            let (width, height, scale) = read(words)?;
+            let (offset_x, offset_y) = rest.next()?;
+            let (width, height, scale) = rest.last()?;
             DeviceEvent::Region {
                 offset_x,
                 offset_y,
@@ -171,55 +141,63 @@ fn device_event<'a>(
             }
         }
         "region_mapping_id" => DeviceEvent::RegionMappingId {
-            mapping_id: words.text(scratch)?,
+            mapping_id: rest.text()?,
         },
         "interface" => {
-            let (kind, number) = read(words)?;
+            let (kind, number) = rest.last()?;
             DeviceEvent::Interface {
                 object: object_of(kind, number),
             }
         }
-        "done" => DeviceEvent::Done,
-        _ => device_state_event(name, words)?,
-    };
-    Ok(Event::Device(device, event))
+        "done" => {
+            rest.end()?;
+            DeviceEvent::Done
+        }
+        _ => device_state_event(name, &mut rest)?,
+    })
 }
 
 // An interface object; none where the interface is of no known kind.
-fn object_of(kind: Option<DeviceCapability>, number: u64) -> Option<Object> {
-    match kind {
-        Some(kind) => Some(Object { kind, number }),
-        None => None,
-    }
+fn object_of(kind: Option<DeviceCapability>, number: u64) -> Option<Object>
+    ensures { result ≡ object_from kind number }
+{
+    kind.map(|kind| Object { kind, number })
 }
 
-fn device_state_event<'a>(name: &str, words: &mut Words) -> Result<DeviceEvent<'a>, Malformed> {
+fn device_state_event<'a>(name: &str, rest: &mut Rest<'_, '_>) -> Result<DeviceEvent<'a>, Malformed>
+    ensures { IfOk result (DeviceLine name.now (left rest.old.words)) }
+{
     Ok(match name {
         "resumed" => DeviceEvent::Resumed {
-            serial: read(words)?,
+            serial: rest.last()?,
         },
         "paused" => DeviceEvent::Paused {
-            serial: read(words)?,
+            serial: rest.last()?,
         },
         "start_emulating" => {
-            let (serial, sequence) = read(words)?;
+            let (serial, sequence) = rest.last()?;
             DeviceEvent::StartEmulating { serial, sequence }
         }
         "stop_emulating" => DeviceEvent::StopEmulating {
-            serial: read(words)?,
+            serial: rest.last()?,
         },
         "frame" => {
-            let (serial, timestamp) = read(words)?;
+            let (serial, timestamp) = rest.last()?;
             DeviceEvent::Frame { serial, timestamp }
         }
+        "destroyed" => DeviceEvent::Destroyed {
+            serial: rest.last()?,
+        },
         _ => return Err(Malformed::UnknownWord),
     })
 }
 
-fn keyboard_event<'a>(object: u64, name: &str, words: &mut Words) -> Result<Event<'a>, Malformed> {
-    let event = match name {
+fn keyboard_event(name: &str, rest: &mut Rest<'_, '_>) -> Result<KeyboardEvent, Malformed>
+    ensures { IfOk result (KeyboardLine name.now (left rest.old.words)) }
+{
+    Ok(match name {
         "keymap" => {
-            let (Case(keymap_type), size, keymap) = read(words)?;
+            let (Case(keymap_type), size, keymap) = rest.last()?;
             KeyboardEvent::Keymap {
                 keymap_type,
                 size,
@@ -227,12 +205,12 @@ fn keyboard_event<'a>(object: u64, name: &str, words: &mut Words) -> Result<Even
             }
         }
         "key" => {
-            let (key, Case(state)) = read(words)?;
+            let (key, Case(state)) = rest.last()?;
             KeyboardEvent::Key { key, state }
         }
         "modifiers" => {
-            let (serial, depressed) = read(words)?;
-            let (locked, latched, group) = read(words)?;
+            let (serial, depressed) = rest.next()?;
+            let (locked, latched, group) = rest.last()?;
             KeyboardEvent::Modifiers {
                 serial,
                 depressed,
@@ -241,98 +219,121 @@ fn keyboard_event<'a>(object: u64, name: &str, words: &mut Words) -> Result<Even
                 group,
             }
         }
+        "destroyed" => KeyboardEvent::Destroyed {
+            serial: rest.last()?,
+        },
         _ => return Err(Malformed::UnknownWord),
-    };
-    Ok(Event::Keyboard(object, event))
+    })
 }
 
-fn pointer_event<'a>(object: u64, name: &str, words: &mut Words) -> Result<Event<'a>, Malformed> {
-    if name != "motion_relative" {
-        return Err(Malformed::UnknownWord);
-    }
-    let (x, y) = read(words)?;
-    Ok(Event::Pointer(object, PointerEvent::MotionRelative { x, y }))
+fn pointer_event(name: &str, rest: &mut Rest<'_, '_>) -> Result<PointerEvent, Malformed>
+    ensures { IfOk result (PointerLine name.now (left rest.old.words)) }
+{
+    Ok(match name {
+        "motion_relative" => {
+            let (x, y) = rest.last()?;
+            PointerEvent::MotionRelative { x, y }
+        }
+        "destroyed" => PointerEvent::Destroyed {
+            serial: rest.last()?,
+        },
+        _ => return Err(Malformed::UnknownWord),
+    })
 }
 
-fn pointer_absolute_event<'a>(
-    object: u64,
+fn pointer_absolute_event(
     name: &str,
-    words: &mut Words,
-) -> Result<Event<'a>, Malformed> {
-    if name != "motion_absolute" {
-        return Err(Malformed::UnknownWord);
-    }
-    let (x, y) = read(words)?;
-    Ok(Event::PointerAbsolute(object, PointerAbsoluteEvent::MotionAbsolute { x, y }))
+    rest: &mut Rest<'_, '_>,
+) -> Result<PointerAbsoluteEvent, Malformed>
+    ensures { IfOk result (PointerAbsoluteLine name.now (left rest.old.words)) }
+{
+    Ok(match name {
+        "motion_absolute" => {
+            let (x, y) = rest.last()?;
+            PointerAbsoluteEvent::MotionAbsolute { x, y }
+        }
+        "destroyed" => PointerAbsoluteEvent::Destroyed {
+            serial: rest.last()?,
+        },
+        _ => return Err(Malformed::UnknownWord),
+    })
 }
 
-fn scroll_event<'a>(object: u64, name: &str, words: &mut Words) -> Result<Event<'a>, Malformed> {
-    let event = match name {
+fn scroll_event(name: &str, rest: &mut Rest<'_, '_>) -> Result<ScrollEvent, Malformed>
+    ensures { IfOk result (ScrollLine name.now (left rest.old.words)) }
+{
+    Ok(match name {
         "scroll" => {
-            let (x, y) = read(words)?;
+            let (x, y) = rest.last()?;
             ScrollEvent::Scroll { x, y }
         }
         "scroll_discrete" => {
-            let (x, y) = read(words)?;
+            let (x, y) = rest.last()?;
             ScrollEvent::ScrollDiscrete { x, y }
         }
         "scroll_stop" => {
-            let (x, y, is_cancel) = read(words)?;
+            let (x, y, is_cancel) = rest.last()?;
             ScrollEvent::ScrollStop { x, y, is_cancel }
         }
+        "destroyed" => ScrollEvent::Destroyed {
+            serial: rest.last()?,
+        },
         _ => return Err(Malformed::UnknownWord),
-    };
-    Ok(Event::Scroll(object, event))
+    })
 }
 
-fn button_event<'a>(object: u64, name: &str, words: &mut Words) -> Result<Event<'a>, Malformed> {
-    if name != "button" {
-        return Err(Malformed::UnknownWord);
-    }
-    let (button, Case(state)) = read(words)?;
-    Ok(Event::Button(object, ButtonEvent::Button { button, state }))
+fn button_event(name: &str, rest: &mut Rest<'_, '_>) -> Result<ButtonEvent, Malformed>
+    ensures { IfOk result (ButtonLine name.now (left rest.old.words)) }
+{
+    Ok(match name {
+        "button" => {
+            let (button, Case(state)) = rest.last()?;
+            ButtonEvent::Button { button, state }
+        }
+        "destroyed" => ButtonEvent::Destroyed {
+            serial: rest.last()?,
+        },
+        _ => return Err(Malformed::UnknownWord),
+    })
 }
 
-fn touchscreen_event<'a>(
-    object: u64,
-    name: &str,
-    words: &mut Words,
-) -> Result<Event<'a>, Malformed> {
-    let event = match name {
+fn touchscreen_event(name: &str, rest: &mut Rest<'_, '_>) -> Result<TouchscreenEvent, Malformed>
+    ensures { IfOk result (TouchscreenLine name.now (left rest.old.words)) }
+{
+    Ok(match name {
         "down" => {
-            let (touchid, x, y) = read(words)?;
+            let (touchid, x, y) = rest.last()?;
             TouchscreenEvent::Down { touchid, x, y }
         }
         "motion" => {
-            let (touchid, x, y) = read(words)?;
+            let (touchid, x, y) = rest.last()?;
             TouchscreenEvent::Motion { touchid, x, y }
         }
         "up" => TouchscreenEvent::Up {
-            touchid: read(words)?,
+            touchid: rest.last()?,
         },
         "cancel" => TouchscreenEvent::Cancel {
-            touchid: read(words)?,
+            touchid: rest.last()?,
+        },
+        "destroyed" => TouchscreenEvent::Destroyed {
+            serial: rest.last()?,
         },
         _ => return Err(Malformed::UnknownWord),
-    };
-    Ok(Event::Touchscreen(object, event))
+    })
 }
 
-fn text_event<'a>(
-    object: u64,
-    name: &str,
-    words: &mut Words,
-    scratch: &'a mut Vec<u8>,
-) -> Result<Event<'a>, Malformed> {
-    let event = match name {
+fn text_event<'a>(name: &str, mut rest: Rest<'_, 'a>) -> Result<TextEvent<'a>, Malformed>
+    ensures { IfOk result (TextLine name.now (left rest.entry.words)) }
+{
+    Ok(match name {
         "keysym" => {
-            let (keysym, Case(state)) = read(words)?;
+            let (keysym, Case(state)) = rest.last()?;
             TextEvent::Keysym { keysym, state }
         }
-        "utf8" => TextEvent::Utf8 {
-            text: words.text(scratch)?,
+        "utf8" => TextEvent::Utf8 { text: rest.text()? },
+        "destroyed" => TextEvent::Destroyed {
+            serial: rest.last()?,
         },
         _ => return Err(Malformed::UnknownWord),
-    };
-    Ok(Event::Text(object, event))
+    })
 }

@@ -4,5 +4,6 @@
 mod events;
 mod fields;
 mod lines;
+mod rest;
 
 pub use lines::{Line, parse};

@@ -1,12 +1,14 @@
 // The lines of a session.
 ghost use Rattle.std.specs.Prelude.{IfOk};
-ghost use Rattle.script.specs.Lines.{SmallSet};
+ghost use Rattle.script.specs.Lines.{Asks, LineAsks};
+ghost use Rattle.wording.specs.Words.{left};
 
 use crate::events::event;
-use crate::fields::read;
+use crate::rest::Rest;
 use ei::proto::Event;
+use ei::set::CapabilitySet;
 use std::str::from_utf8;
-use wording::{Malformed, Words};
+use wording::Malformed;
 
 // What a line asks for. The texts of an event are borrowed from the buffer that the line was read with.
 #[derive(Clone, Copy)]
@@ -17,8 +19,7 @@ pub enum Line<'a> {
     Take,
     Next,
     Callback { callback: u64, ticket: u32 },
-    // The set is a number of seven bits.
-    Bind { handle: u32, set: u64 },
+    Bind { handle: u32, set: CapabilitySet },
     RetireSeat { handle: u32 },
     RetireDevice { handle: u32 },
     Event(Event<'a>),
@@ -26,54 +27,56 @@ pub enum Line<'a> {
 
 // Reads one line, without its line feed. An empty line and one that begins with `#` are skipped.
 pub fn parse<'a>(line: &[u8], scratch: &'a mut Vec<u8>) -> Result<Line<'a>, Malformed>
-    ensures { IfOk result SmallSet }
+    ensures { IfOk result (LineAsks line.now) }
 {
     if let [] | [b'#', ..] = line {
         return Ok(Line::Skip);
     }
-    let mut words = Words::new(line);
-    let Ok(word) = from_utf8(words.next_word()?) else {
-        return Err(Malformed::UnknownWord);
-    };
-    let parsed = match word.split_once('.') {
-        Some((interface, name)) => Line::Event(event(interface, name, &mut words, scratch)?),
-        None => call_line(word, &mut words)?,
-    };
-    words.end()?;
-    Ok(parsed)
+    let mut rest = Rest::new(line, scratch);
+    let word = from_utf8(rest.word()?).map_err(|_| Malformed::UnknownWord)?;
+    match word.split_once('.') {
+        Some((interface, name)) => Ok(Line::Event(event(interface, name, rest)?)),
+        None => call_line(word, &mut rest),
+    }
 }
 
 // The lines whose first word has no dot.
-fn call_line<'a>(call: &str, words: &mut Words) -> Result<Line<'a>, Malformed>
-    ensures { IfOk result SmallSet }
+fn call_line<'a>(call: &str, rest: &mut Rest<'_, '_>) -> Result<Line<'a>, Malformed>
+    ensures { IfOk result (Asks call.now (left rest.old.words)) }
 {
     Ok(match call {
         "start" => Line::Start {
-            serial: read(words)?,
+            serial: rest.last()?,
         },
         "reading" => Line::Reading {
-            micros: read(words)?,
+            micros: rest.last()?,
         },
-        "take" => Line::Take,
-        "next" => Line::Next,
+        "take" => {
+            rest.end()?;
+            Line::Take
+        }
+        "next" => {
+            rest.end()?;
+            Line::Next
+        }
         "callback" => {
-            let (callback, ticket) = read(words)?;
+            let (callback, ticket) = rest.last()?;
             Line::Callback { callback, ticket }
         }
         "bind" => {
-            let (handle, set) = read(words)?;
-            if set >= 128 {
-                return Err(Malformed::NotInTable);
-            }
+            let (handle, set) = rest.last()?;
             Line::Bind { handle, set }
         }
         "retire_seat" => Line::RetireSeat {
-            handle: read(words)?,
+            handle: rest.last()?,
         },
         "retire_device" => Line::RetireDevice {
-            handle: read(words)?,
+            handle: rest.last()?,
         },
-        "handshake" => Line::Event(Event::Handshake),
+        "handshake" => {
+            rest.end()?;
+            Line::Event(Event::Handshake)
+        }
         _ => return Err(Malformed::UnknownWord),
     })
 }

@@ -1,8 +1,9 @@
 -- What comes of a session with the model of the converter, over a kept host.
-use Rattle.std.specs.Prelude.{◌≡◌, ℕ, zero, suc, ◌-◌, Bool, true, false, cond, not, List, [], ◌∷◌, ◌++◌, length, is_some, Some, None, Option, ◌==◌, nat_lt}
+use Rattle.std.specs.Prelude.{◌≡◌, ℕ, zero, suc, ◌-◌, Bool, true, false, cond, not, List, [], ◌∷◌, ◌++◌, length, is_some, Some, None, Ok, Err, Option, Result, ◌==◌, nat_lt}
 use Rattle.ei.specs.Events.{kind_of, handle_of, time_of}
 use Rattle.ei.specs.Refusals.{answer_of}
 use Rattle.ei.specs.declared.enums.DeviceType.TheVariants as types
+use Rattle.ei.specs.declared.error.EventError.{EventError}
 use Rattle.ei.specs.declared.event.EiEvent.{EiEvent}
 use Rattle.host.specs.Leaving.{places}
 use Rattle.host.specs.declared.Note.{Note}
@@ -43,22 +44,22 @@ moved o s = record { model = o.after; reading = s.reading; waiting = noted o.ask
 abbrev pub if_so : Bool → Stage → Option Stage
 if_so b s = cond b (Some s) None
 
-abbrev pub if_answered : ℕ → Stage → Outcome → Option Stage
-if_answered n s o = if_so (answer_of o.answer == n) (moved o s)
+abbrev pub if_answered : Result (Unit {0}) EventError → Stage → Outcome → Option Stage
+if_answered a s o = if_so (answer_of o.answer == answer_of a) (moved o s)
 
 -- a call with its answer
-abbrev pub called : says.Call → ℕ → Stage → Option Stage
-called c n s = if_answered n s (handled (view s) c s.model)
+abbrev pub called : says.Call → Result (Unit {0}) EventError → Stage → Option Stage
+called c a s = if_answered a s (handled (view s) c s.model)
 
 -- so many calls, each done
 abbrev pub repeated : ℕ → says.Call → Stage → Option Stage
 repeated zero c s = Some s
-repeated (suc n) c s = at_some (called c 0 s) None (repeated n c)
+repeated (suc n) c s = at_some (called c (Ok tt) s) None (repeated n c)
 
 -- calls one after the other, each done
 abbrev pub all_called : List says.Call → Stage → Option Stage
 all_called [] s = Some s
-all_called (c ∷ cs) s = at_some (called c 0 s) None (all_called cs)
+all_called (c ∷ cs) s = at_some (called c (Ok tt) s) None (all_called cs)
 
 -- seat 101 gets handle 1, and device 201, virtual with keyboard 301, handle 2
 abbrev pub setup : List says.Call
@@ -76,7 +77,7 @@ is_seen kind handle time None = false
 is_seen kind handle time (Some e) = cond (kind_of e == kind) (cond (handle_of e == handle) (time_of e == time) false) false
 
 abbrev pub next_seen : ℕ → ℕ → ℕ → Stage → Option Stage
-next_seen kind handle time s = cond (is_seen kind handle time (given s.model.store)) (called says.next_event 0 s) None
+next_seen kind handle time s = cond (is_seen kind handle time (given s.model.store)) (called says.next_event (Ok tt) s) None
 
 abbrev pub none_seen : Stage → Option Stage
 none_seen s = if_so (not (is_some (given s.model.store))) s
@@ -103,9 +104,9 @@ abbrev pub played : Line → Stage → Option Stage
 played (lines.Start serial) s = Some (begun serial)
 played lines.Setup s = all_called setup s
 played (lines.Reading micros) s = Some (record { model = s.model; reading = micros; waiting = s.waiting })
-played (lines.Does c) s = called (call_of c) 0 s
+played (lines.Does c) s = called (call_of c) (Ok tt) s
 played (lines.Repeats n c) s = repeated n (call_of c) s
-played (lines.Refuses c n) s = called (call_of c) n s
+played (lines.Refuses c e) s = called (call_of c) (Err e) s
 played (lines.AddCallback n ticket answer) s = called (says.add_callback n ticket) answer s
 played (lines.Bind seat set answer) s = called (says.bind seat set) answer s
 played (lines.Next kind handle time) s = next_seen kind handle time s

@@ -1,8 +1,9 @@
 -- The worked sessions. Each begins with a new converter.
-use Rattle.std.specs.Prelude.{List, [], ◌∷◌, ◌++◌, Some, None}
+use Rattle.std.specs.Prelude.{List, [], ◌∷◌, ◌++◌, Some, None, Ok}
 use Rattle.ei.specs.declared.capability.DeviceCapability.TheVariants as kinds
 use Rattle.ei.specs.declared.enums.DeviceType.TheVariants as types
 use Rattle.ei.specs.declared.enums.KeyState.TheVariants as keys
+use Rattle.ei.specs.declared.error.EventError.TheVariants as refusals
 use Rattle.ei.specs.declared.proto.KeyboardEvent.TheVariants as of_keyboard
 use Rattle.ei.specs.declared.proto.PointerEvent.TheVariants as of_pointer
 use Rattle.host.specs.declared.Note.TheVariants as notes
@@ -29,7 +30,7 @@ frame_with_nothing_pending =
 abbrev pub paused_unknown : List Line
 paused_unknown =
     Start 5 ∷
-    (Refuses (Device 201 (of_device.Paused 7)) 1 ∷
+    (Refuses (Device 201 (of_device.Paused 7)) refusals.DeviceEventBeforeDone ∷
     (NoNext ∷
     (Serial 7 ∷ [])))
 
@@ -37,7 +38,7 @@ paused_unknown =
 abbrev pub destroyed_unowned : List Line
 destroyed_unowned =
     Start 5 ∷
-    (Refuses (Pointer 401 (of_pointer.Destroyed 7)) 1 ∷
+    (Refuses (Pointer 401 (of_pointer.Destroyed 7)) refusals.DeviceEventBeforeDone ∷
     (Serial 5 ∷
     (Start 5 ∷
     (Does (Keyboard 301 (of_keyboard.Destroyed 7)) ∷
@@ -50,8 +51,8 @@ done_without_type =
     (Does (NewSeat 101) ∷
     (Does (Seat 101 of_seat.Done) ∷
     (Does (Seat 101 (of_seat.Device 201)) ∷
-    (Refuses (Device 201 of_device.Done) 5 ∷
-    (Refuses (Device 201 (of_device.Name 4)) 2 ∷
+    (Refuses (Device 201 of_device.Done) refusals.NoDeviceType ∷
+    (Refuses (Device 201 (of_device.Name 4)) refusals.DeviceSetupEventAfterDone ∷
     (Next 2 1 0 ∷
     (NoNext ∷
     (Serial 5 ∷ []))))))))
@@ -62,7 +63,7 @@ long_name =
     Start 5 ∷
     (Does (NewSeat 101) ∷
     (Does (Seat 101 (of_seat.Name 128)) ∷
-    (Refuses (Seat 101 (of_seat.Name 129)) 8 ∷
+    (Refuses (Seat 101 (of_seat.Name 129)) refusals.LongText ∷
     (Serial 5 ∷ []))))
 
 -- at 253 held a timed event is accepted, at 254 refused
@@ -72,7 +73,7 @@ timed_at_254 =
     (Setup ∷
     (Repeats 251 (Keyboard 301 (of_keyboard.Key 30 keys.Press)) ∷
     (Does (Keyboard 301 (of_keyboard.Key 30 keys.Released)) ∷
-    (Refuses (Keyboard 301 (of_keyboard.Key 31 keys.Press)) 9 ∷
+    (Refuses (Keyboard 301 (of_keyboard.Key 31 keys.Press)) refusals.StoreFull ∷
     (Serial 5 ∷ [])))))
 
 -- a Frame with pending events is accepted at 255 held
@@ -96,7 +97,7 @@ frame_at_256 =
     (Does (Seat 102 of_seat.Done) ∷
     (Does (NewSeat 103) ∷
     (Does (Seat 103 of_seat.Done) ∷
-    (Refuses (Device 201 (of_device.Frame 9 1000)) 9 ∷
+    (Refuses (Device 201 (of_device.Frame 9 1000)) refusals.StoreFull ∷
     (Serial 5 ∷ []))))))))
 
 -- masks 4 and 6 bound together send 6, and the empty set sends 0
@@ -107,9 +108,9 @@ masks_joined =
     (Does (Seat 101 (of_seat.Capability 4 (Some kinds.Keyboard))) ∷
     (Does (Seat 101 (of_seat.Capability 6 (Some kinds.Pointer))) ∷
     (Does (Seat 101 of_seat.Done) ∷
-    (Bind 1 5 0 ∷
+    (Bind 1 5 (Ok tt) ∷
     (Take (Some (notes.Bind 101 6)) ∷
-    (Bind 1 0 0 ∷
+    (Bind 1 0 (Ok tt) ∷
     (Take (Some (notes.Bind 101 0)) ∷
     (Take None ∷
     (Serial 5 ∷ []))))))))))

@@ -13,8 +13,7 @@ static LETTERS: [u8; 256] = [b'a'; 256];
 fn letters(count: u8) -> &'static [u8]
     ensures { result.now ≡ text_of_letters count }
 {
-    let (text, _) = LETTERS.split_at(count as usize);
-    text
+    &LETTERS[..usize::from(count)]
 }
 
 fn seat_event(number: u64, call: SeatCall) -> Event<'static>

@@ -1,6 +1,7 @@
 // What is done in a session, line by line.
 use ei::capability::DeviceCapability;
 use ei::enums::DeviceType;
+use ei::error::EventError;
 use ei::object::Object;
 use ei::proto::{CallbackEvent, KeyboardEvent, PointerEvent};
 use host::Note;
@@ -56,13 +57,13 @@ pub enum Line {
     Does(Call),
     // So many calls are done.
     Repeats(u32, Call),
-    // A call is refused with this number.
-    Refuses(Call, u8),
-    // A ticket for a callback, and the answer: 0, or the number of the refusal.
-    AddCallback(u64, u32, u8),
-    // A seat's handle, a set of seven bits, and the answer.
-    Bind(u32, u8, u8),
-    // The next event has a kind of this number, this handle (0 for none) and this time (0 for none).
+    // A call is refused with this error.
+    Refuses(Call, EventError),
+    // A ticket for a callback, and the answer.
+    AddCallback(u64, u32, Result<(), EventError>),
+    // A seat's handle, a set of seven bits, and the answer. The set is in bits, since a static has no call that makes a set.
+    Bind(u32, u8, Result<(), EventError>),
+    // The next event's kind, handle and time as they are printed: the kind by its number, and 0 for no handle or no time.
     Next(u8, u32, u64),
     // No event is queued.
     NoNext,

@@ -6,6 +6,7 @@ use crate::line::{Call, DeviceCall, Line, SeatCall};
 use crate::samples::{PRESS_30, PRESS_31, RELEASE_30, SECOND_KEYBOARD};
 use ei::capability::DeviceCapability;
 use ei::enums::DeviceType;
+use ei::error::EventError;
 use ei::proto::{KeyboardEvent, PointerEvent};
 use host::Note;
 
@@ -20,12 +21,18 @@ static WORKED: [Line; 95] = [
     Line::Serial(9),
     // Paused of an unknown device is refused and sets the serial.
     Line::Start(5),
-    Line::Refuses(Call::Device(201, DeviceCall::Paused(7)), 1),
+    Line::Refuses(
+        Call::Device(201, DeviceCall::Paused(7)),
+        EventError::DeviceEventBeforeDone,
+    ),
     Line::NoNext,
     Line::Serial(7),
     // Destroyed of an unowned pointer is refused and leaves the serial; of a keyboard it is accepted and sets it.
     Line::Start(5),
-    Line::Refuses(Call::Pointer(401, PointerEvent::Destroyed { serial: 7 }), 1),
+    Line::Refuses(
+        Call::Pointer(401, PointerEvent::Destroyed { serial: 7 }),
+        EventError::DeviceEventBeforeDone,
+    ),
     Line::Serial(5),
     Line::Start(5),
     Line::Does(Call::Keyboard(301, KeyboardEvent::Destroyed { serial: 7 })),
@@ -35,8 +42,14 @@ static WORKED: [Line; 95] = [
     Line::Does(Call::NewSeat(101)),
     Line::Does(Call::Seat(101, SeatCall::Done)),
     Line::Does(Call::Seat(101, SeatCall::Device(201))),
-    Line::Refuses(Call::Device(201, DeviceCall::Done), 5),
-    Line::Refuses(Call::Device(201, DeviceCall::Name(4)), 2),
+    Line::Refuses(
+        Call::Device(201, DeviceCall::Done),
+        EventError::NoDeviceType,
+    ),
+    Line::Refuses(
+        Call::Device(201, DeviceCall::Name(4)),
+        EventError::DeviceSetupEventAfterDone,
+    ),
     Line::Next(2, 1, 0),
     Line::NoNext,
     Line::Serial(5),
@@ -44,14 +57,14 @@ static WORKED: [Line; 95] = [
     Line::Start(5),
     Line::Does(Call::NewSeat(101)),
     Line::Does(Call::Seat(101, SeatCall::Name(128))),
-    Line::Refuses(Call::Seat(101, SeatCall::Name(129)), 8),
+    Line::Refuses(Call::Seat(101, SeatCall::Name(129)), EventError::LongText),
     Line::Serial(5),
     // At 253 held a timed event is accepted, at 254 refused.
     Line::Start(5),
     Line::Setup,
     Line::Repeats(251, Call::Keyboard(301, PRESS_30)),
     Line::Does(Call::Keyboard(301, RELEASE_30)),
-    Line::Refuses(Call::Keyboard(301, PRESS_31), 9),
+    Line::Refuses(Call::Keyboard(301, PRESS_31), EventError::StoreFull),
     Line::Serial(5),
     // A Frame with pending events is accepted at 255 held.
     Line::Start(5),
@@ -69,7 +82,10 @@ static WORKED: [Line; 95] = [
     Line::Does(Call::Seat(102, SeatCall::Done)),
     Line::Does(Call::NewSeat(103)),
     Line::Does(Call::Seat(103, SeatCall::Done)),
-    Line::Refuses(Call::Device(201, DeviceCall::Frame(9, 1000)), 9),
+    Line::Refuses(
+        Call::Device(201, DeviceCall::Frame(9, 1000)),
+        EventError::StoreFull,
+    ),
     Line::Serial(5),
     // Masks 4 and 6 bound together send 6, and the empty set sends 0.
     Line::Start(5),
@@ -83,9 +99,9 @@ static WORKED: [Line; 95] = [
         SeatCall::Capability(6, Some(DeviceCapability::Pointer)),
     )),
     Line::Does(Call::Seat(101, SeatCall::Done)),
-    Line::Bind(1, 5, 0),
+    Line::Bind(1, 5, Ok(())),
     Line::Take(Some(Note::Bind { seat: 101, mask: 6 })),
-    Line::Bind(1, 0, 0),
+    Line::Bind(1, 0, Ok(())),
     Line::Take(Some(Note::Bind { seat: 101, mask: 0 })),
     Line::Take(None),
     Line::Serial(5),

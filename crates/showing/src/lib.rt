@@ -2,17 +2,16 @@
 #![tactic(auto)]
 
 ghost use Rattle.std.specs.Prelude.{Some};
-ghost use Rattle.showing.specs.Showing.{event_line, explained, fields_of, flag, float_bits};
+ghost use Rattle.showing.specs.Showing.{event_line, explained, fields_of, float_bits};
 
 use ei::device::Region;
-use ei::enums::Numbered;
 use ei::event::EiEvent;
 use ei::text::Text;
 use std::fmt;
 use std::num::f32_to_bits_with_nan;
-use wording::{HexByte, Quoted};
+use wording::Quoted;
 
-// A float, by its bits.
+// A float, by its bits: a type of its own, since seven kinds of lines would repeat the format.
 #[derive(Clone, Copy)]
 struct Bits(f32);
 
@@ -20,27 +19,7 @@ impl fmt::Display for Bits {
     ghost output = { λ x. Some (float_bits x.0) };
 
     fn fmt<W: fmt::Write>(&self, f: &mut fmt::Formatter<W>) -> fmt::Result {
-        let [a, b, c, d] = f32_to_bits_with_nan(self.0).to_be_bytes();
-        write!(
-            f,
-            "0x{}{}{}{}",
-            HexByte(a),
-            HexByte(b),
-            HexByte(c),
-            HexByte(d)
-        )
-    }
-}
-
-// A yes or a no.
-#[derive(Clone, Copy)]
-struct Flag(bool);
-
-impl fmt::Display for Flag {
-    ghost output = { λ x. Some (flag x.0) };
-
-    fn fmt<W: fmt::Write>(&self, f: &mut fmt::Formatter<W>) -> fmt::Result {
-        write!(f, "{}", u8::from(self.0))
+        write!(f, "0x{:08x}", f32_to_bits_with_nan(self.0))
     }
 }
 
@@ -72,13 +51,13 @@ impl fmt::Display for Fields<'_> {
                 f,
                 " {} {} {}",
                 e.last_serial,
-                e.reason.number(),
+                u32::from(e.reason),
                 Explained(e.explanation)
             ),
             EiEvent::SeatAdded(_)
             | EiEvent::SeatRemoved(_)
             | EiEvent::DeviceAdded(_)
-            | EiEvent::DeviceRemoved(_) => write!(f, ""),
+            | EiEvent::DeviceRemoved(_) => Ok(()),
             EiEvent::DevicePaused(e) => write!(f, " {}", e.serial),
             EiEvent::DeviceResumed(e) => write!(f, " {}", e.serial),
             EiEvent::KeyboardModifiers(e) => write!(
@@ -96,17 +75,17 @@ impl fmt::Display for Fields<'_> {
                 Bits(e.dx_absolute),
                 Bits(e.dy_absolute)
             ),
-            EiEvent::Button(e) => write!(f, " {} {}", e.button, e.state.number()),
+            EiEvent::Button(e) => write!(f, " {} {}", e.button, u32::from(e.state)),
             EiEvent::ScrollDelta(e) => write!(f, " {} {}", Bits(e.dx), Bits(e.dy)),
-            EiEvent::ScrollStop(e) => write!(f, " {} {}", Flag(e.x), Flag(e.y)),
-            EiEvent::ScrollCancel(e) => write!(f, " {} {}", Flag(e.x), Flag(e.y)),
+            EiEvent::ScrollStop(e) => write!(f, " {} {}", u8::from(e.x), u8::from(e.y)),
+            EiEvent::ScrollCancel(e) => write!(f, " {} {}", u8::from(e.x), u8::from(e.y)),
             EiEvent::ScrollDiscrete(e) => write!(f, " {} {}", e.discrete_dx, e.discrete_dy),
-            EiEvent::KeyboardKey(e) => write!(f, " {} {}", e.key, e.state.number()),
+            EiEvent::KeyboardKey(e) => write!(f, " {} {}", e.key, u32::from(e.state)),
             EiEvent::TouchDown(e) => write!(f, " {} {} {}", e.touch_id, Bits(e.x), Bits(e.y)),
             EiEvent::TouchUp(e) => write!(f, " {}", e.touch_id),
             EiEvent::TouchMotion(e) => write!(f, " {} {} {}", e.touch_id, Bits(e.x), Bits(e.y)),
             EiEvent::TouchCancel(e) => write!(f, " {}", e.touch_id),
-            EiEvent::TextKeysym(e) => write!(f, " {} {}", e.keysym, e.state.number()),
+            EiEvent::TextKeysym(e) => write!(f, " {} {}", e.keysym, u32::from(e.state)),
             EiEvent::TextUtf8(e) => write!(f, " {}", Explained(Some(e.text))),
         }
     }

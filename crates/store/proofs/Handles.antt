@@ -1,5 +1,5 @@
 -- What each move does to the events of each device, to the queue and to how many are held.
-use Rattle.std.proofs.Common.{◌≡◌, ℕ, ◌+◌, ◌≤◌, Bool, true, false, cond, List, [], ◌∷◌, ◌++◌, map, length, Some, None, filter, Option, sym, refl, ap, ◌∙◌, subst, ⊎_elim, arith}
+use Rattle.std.proofs.Common.{◌≡◌, ℕ, ◌+◌, Bool, true, false, cond, List, [], ◌∷◌, ◌++◌, map, length, Some, None, filter, Option, sym, refl, ap, ◌∙◌, subst, ⊎_elim, arith}
 use Rattle.std.proofs.lemmas.List.Elements.{filter-append}
 use Rattle.std.proofs.lemmas.List.{append-nil, append_assoc, length-append, length-map, length_push}
 use Rattle.std.proofs.lemmas.Bool.{not_from_false, not-true, cond-true, cond-false, cond_both, cases_Bool, eqb-true, ne_eqb}
@@ -7,12 +7,10 @@ use Rattle.ei.specs.Events.{device_of, at_time}
 use Rattle.ei.specs.declared.event.EiEvent.{EiEvent}
 use Rattle.ei.specs.declared.event.EiEvent.TheVariants.{Disconnected, SeatAdded, SeatRemoved, DeviceAdded, DeviceRemoved, DevicePaused, DeviceResumed, KeyboardModifiers, Frame as frame, DeviceStartEmulating, DeviceStopEmulating, PointerMotion, PointerMotionAbsolute, Button, ScrollDelta, ScrollStop, ScrollCancel, ScrollDiscrete, KeyboardKey, TouchDown, TouchUp, TouchMotion, TouchCancel, TextKeysym, TextUtf8}
 use Rattle.ei.specs.declared.event.Frame.{Frame}
-use Rattle.store.specs.Contents.{contents}
 use Rattle.store.specs.Laws.{Held, HoldLaw, Committed, CommitLaw, Queued, QueueLaw, QueuedFramed, QueueFramedLaw, HandedOut, NextLaw, DiscardLaw, Lengthens, Lengthening, Refusing}
 use Rattle.store.specs.Moves.{Contents, is_device, some, of, not_of, pending_for, others, has_pending, held, fits, batch, pended, added, framed, can_hold, hold, can_commit, commit, queue, can_queue_framed, queue_framed, given, rest, discard}
-use Rattle.store.specs.declared.kept.EventStore.{EventStore}
 use Rattle.store.proofs.Filters.{kept_all, kept_kept, kept_none, kept_yes, kept_no}
-use Rattle.store.proofs.Stores.{held_is, same_contents, both_parts, fits_true, fits_from}
+use Rattle.store.proofs.Stores.{same_contents, both_parts, fits_true, fits_from}
 
 -- Whose an event is.
 
@@ -69,11 +67,7 @@ others_same h k ne es = kept_kept (of k) (not_of h) (λ e t. not_from_false (of 
 
 none_from_some : (es : List EiEvent) → some es ≡ false → es ≡ []
 none_from_some [] t = refl
-none_from_some (e ∷ es) t = let z : ◌≡◌ {A = ℕ} 0 1 = cc in absurd (omega arith)
-
-pub has_none : (h : ℕ) (c : Contents) → has_pending h c ≡ false → pending_for h c ≡ []
-unfolding has_pending
-has_none h c t = none_from_some (pending_for h c) t
+none_from_some (e ∷ es) t = cc
 
 pub batch_none : (f : Frame) (es : List EiEvent) → some es ≡ false → batch f es ≡ []
 unfolding batch
@@ -84,11 +78,6 @@ unfolding batch
 length_batch f [] = refl
 length_batch f (e ∷ es) = length_push (map (at_time f.time) (e ∷ es)) (frame f) ∙ ap (λ n. n + 1) (length-map (e ∷ es) (at_time f.time))
 
--- what is pending by device hangs on the pending events alone
-pub same_pending : (h : ℕ) (c d : Contents) → c.pending ≡ d.pending → pending_for h c ≡ pending_for h d
-unfolding pending_for
-same_pending h c d e = ap (filter (of h)) e
-
 -- a frame with nothing pending does nothing
 pub framed_none : (f : Frame) (c : Contents) → has_pending f.device c ≡ false → framed f c ≡ c
 unfolding framed has_pending pending_for others not_of
@@ -98,10 +87,6 @@ framed_none f c t =
     (ap (λ l. c.queued ++ l) (batch_none f (pending_for f.device c) t) ∙ append-nil c.queued)
 
 -- How many are held.
-
--- no more than the places
-pub held_bound : (s : EventStore) → held (contents s) ≤ 256
-held_bound s = omega (arith, held_is s, s.bounded)
 
 pub held_pended : (e : EiEvent) (c : Contents) → held (pended e c) ≡ held c + 1
 unfolding held pended
@@ -198,7 +183,7 @@ next_of : (p q : List EiEvent) → (let c : Contents = record { pending = p; que
 unfolding given rest held
 next_of p [] = record { from_front = refl; none_queued = λ _. refl; all_wait = refl; given_fewer = omega arith }
 next_of p (e ∷ es) =
-    record { from_front = refl; none_queued = λ n. (let z : ◌≡◌ {A = ℕ} 0 1 = cc in absurd (omega arith)); all_wait = refl; given_fewer = omega arith }
+    record { from_front = refl; none_queued = λ n. cc; all_wait = refl; given_fewer = omega arith }
 
 pub next_law : NextLaw
 next_law c = next_of c.pending c.queued

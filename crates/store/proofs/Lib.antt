@@ -1,3 +1,4 @@
 pub mod Filters
 pub mod Handles
+pub mod Searches
 pub mod Stores

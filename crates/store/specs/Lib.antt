@@ -1,3 +1,3 @@
 pub mod Moves
-pub mod Contents
+pub mod Room
 pub mod Laws

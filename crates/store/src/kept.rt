@@ -1,9 +1,7 @@
 // The places of the store: 256 for pending and queued events together, reserved once.
-ghost use Rattle.std.specs.Prelude.{◌+◌, ◌≤◌, vec_len, vec_capacity};
-ghost use Rattle.std.specs.VecDeque.{deque_len, deque_capacity};
-
 use ei::event::EiEvent;
 use std::collections::VecDeque;
+use std::marker::Model;
 
 mod asks;
 mod moves;
@@ -14,11 +12,22 @@ const PLACES: usize = 256;
 // A timed event leaves two places free, for a frame and for what may force it.
 const TIMED_PLACES: usize = 254;
 
+// Seen as what it holds: the pending and the queued events, each in the order of arrival.
 #[derive(Drop)]
 pub struct EventStore {
     pending: Vec<EiEvent>,
     queued: VecDeque<EiEvent>,
-    ghost bounded: { vec_len pending + deque_len queued ≤ 256 },
-    ghost pending_room: { 256 ≤ vec_capacity pending },
-    ghost queued_room: { 256 ≤ deque_capacity queued },
+}
+
+impl Model for EventStore {
+    ghost use Rattle.std.specs.Prelude.{vec_len, vec_capacity, vec_items};
+    ghost use Rattle.std.specs.VecDeque.{deque_len, deque_capacity, deque_items};
+    ghost use Rattle.store.specs.Moves.{Contents};
+    ghost use Rattle.store.specs.Room.{Room};
+
+    ghost Value = { Contents };
+
+    ghost view = { λ s. record { pending = vec_items s.pending; queued = deque_items s.queued } };
+
+    ghost invariant = { λ s. Room (vec_len s.pending) (deque_len s.queued) (vec_capacity s.pending) (deque_capacity s.queued) };
 }

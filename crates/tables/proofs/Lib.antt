@@ -1,2 +1,2 @@
-pub mod Decide
-pub mod Left
+pub mod Found
+pub mod Refused

@@ -4,5 +4,4 @@ pub mod Outcomes
 pub mod Refusal
 pub mod Rests
 pub mod Rules
-pub mod Shown
 pub mod Told

@@ -1,6 +1,7 @@
 -- What is left of a call once the tables have taken it, and what comes of that.
-use Rattle.std.specs.Prelude.{◌≡◌, ℕ, Ok, Err, Result, ◌==◌}
+use Rattle.std.specs.Prelude.{◌≡◌, ℕ, ◌<◌, ◌^◌, Ok, Err, Result, ◌==◌}
 use Rattle.ei.specs.declared.error.EventError.{EventError}
+use Rattle.ei.specs.declared.event.EiEvent.{EiEvent}
 use Rattle.host.specs.declared.Note.TheVariants as notes
 use Rattle.records.specs.Rows.{without}
 use Rattle.tables.specs.declared.rest.Rest.{Rest}
@@ -26,3 +27,11 @@ finish v (Ok (rests.Run n ticket x)) m = run_once v n ticket x m
 -- the tables took the call: with any host, what is left gives what the call does
 abbrev pub Takes : Call → Model → Result Rest EventError → Model → Type 0
 Takes c m r after = (v : View) → finish v r after ≡ handled v c m
+
+-- what a closure gives for a handle is this function of it
+abbrev pub Makes : (ℕ → EiEvent → Type 0) → (ℕ → EiEvent) → Type 0
+Makes gives make = (h : ℕ) (e : EiEvent) → h < 2 ^ 32 → gives h e → e ≡ make h
+
+-- with any host, what is left gives this
+abbrev pub Gives : (View → Outcome) → Result Rest EventError → Model → Type 0
+Gives o r after = (v : View) → finish v r after ≡ o v

@@ -1,12 +1,13 @@
 ghost use Rattle.std.specs.Prelude.{◌≡◌, not, length, nat_le};
 ghost use Rattle.ei.specs.Texts.{text_of};
+ghost use Rattle.std.specs.List.{find};
 ghost use Rattle.std.specs.Option.{option_map};
 ghost use Rattle.tables.specs.Refusal.{refusal, checked, of_text, some_too_long};
 
 use ei::error::EventError;
 use ei::text::Text;
 
-// What a call is short of.
+// What a call is short of. Flags and not one refusal, since a call may be short of several things, and `check` alone picks the one told.
 #[derive(Clone, Copy)]
 pub struct Shortage {
     pub long_text: bool,
@@ -31,25 +32,15 @@ impl Shortage {
     pub fn check(self) -> Result<(), EventError>
         ensures { result ≡ checked (refusal self) tt }
     {
-        if self.long_text {
-            return Err(EventError::LongText);
-        }
-        if self.regions_full {
-            return Err(EventError::RegionsFull);
-        }
-        if self.table_full {
-            return Err(EventError::TableFull);
-        }
-        if self.host_full {
-            return Err(EventError::HostFull);
-        }
-        if self.store_full {
-            return Err(EventError::StoreFull);
-        }
-        if self.handles_used_up {
-            return Err(EventError::HandlesUsedUp);
-        }
-        Ok(())
+        let shortages = [
+            (self.long_text, EventError::LongText),
+            (self.regions_full, EventError::RegionsFull),
+            (self.table_full, EventError::TableFull),
+            (self.host_full, EventError::HostFull),
+            (self.store_full, EventError::StoreFull),
+            (self.handles_used_up, EventError::HandlesUsedUp),
+        ];
+        first_of(&shortages).map_or(Ok(()), Err)
     }
 
     // The text to be kept, where it is short enough and nothing else is short.
@@ -69,19 +60,22 @@ impl Shortage {
     pub fn check_explanation(self, bytes: Option<&[u8]>) -> Result<Option<Text>, EventError>
         ensures { result ≡ checked (refusal (of_text (some_too_long (option_map (λ x. x.now) bytes.entry)) self)) (option_map text_of (option_map (λ x. x.now) bytes.entry)) }
     {
-        match bytes {
-            Some(bytes) => match self.check_text(bytes) {
-                Ok(text) => Ok(Some(text)),
-                Err(error) => Err(error),
-            },
-            None => {
-                let all = Shortage {
-                    long_text: false,
-                    ..self
-                };
-                all.check()?;
-                Ok(None)
-            }
-        }
+        let kept = bytes.map(Text::from_bytes);
+        let all = Shortage {
+            long_text: matches!(kept, Some(None)),
+            ..self
+        };
+        all.check()?;
+        Ok(kept.flatten())
     }
+}
+
+// The refusal for the first thing that a call is short of.
+fn first_of(shortages: &[(bool, EventError)]) -> Option<EventError>
+    ensures { result ≡ option_map (λ t. t.1) (find (λ t. t.0) shortages.now) }
+{
+    shortages
+        .iter()
+        .find(|(short, _)| *short)
+        .map(|(_, error)| *error)
 }

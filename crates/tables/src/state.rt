@@ -1,11 +1,9 @@
-// Everything a converter knows besides its host. The struct stands here alone, since its invariant may not see the definitions that
-// name it.
-ghost use Rattle.std.specs.Prelude.{◌≤◌};
-
+// Everything a converter knows besides its host.
 use records::callback::CallbackRow;
 use records::device::DeviceRow;
 use records::seat::SeatRow;
 use records::table::Table;
+use std::marker::Model;
 use store::EventStore;
 
 mod acts;
@@ -21,7 +19,7 @@ mod speech;
 mod touches;
 mod turns;
 
-// The last serial and the last handle, the rows of seats, devices and callbacks, and the events.
+// The last serial and the last handle, the rows of seats, devices and callbacks, and the events. Seen as what a converter holds.
 #[derive(Drop)]
 pub struct Tables {
     serial: u32,
@@ -30,5 +28,15 @@ pub struct Tables {
     devices: Table<DeviceRow, 32>,
     callbacks: Table<CallbackRow, 32>,
     store: EventStore,
-    ghost counted: { handles ≤ 1000000 },
+}
+
+impl Model for Tables {
+    ghost use Rattle.std.specs.Prelude.{◌≤◌};
+    ghost use Rattle.tables.specs.Model.{Model};
+
+    ghost Value = { Model };
+
+    ghost view = { λ t. record { serial = t.serial; handles = t.handles; seats = t.seats; devices = t.devices; callbacks = t.callbacks; store = t.store } };
+
+    ghost invariant = { λ t. t.handles ≤ 1000000 };
 }

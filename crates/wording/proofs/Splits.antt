@@ -1,45 +1,41 @@
--- Where a line is split.
-use Rattle.std.proofs.Common.{◌≡◌, ℕ, zero, suc, ◌+◌, ◌-◌, ◌<◌, eqb, List, [], ◌∷◌, length, get_or, take, drop, Some, None, Option, sym, refl, ap, ◌∙◌, add-one, arith}
-use native.Mathlib.Nat.{sub-zero}
+-- Where a line is split: at its first separator.
+use Rattle.std.proofs.Common.{◌≡◌, ℕ, ◌+◌, ◌-◌, true, false, cond, eqb, ltb, not, List, [], ◌∷◌, length, take, drop, Some, None, sym, refl, ap, ◌∙◌, arith}
+use Rattle.std.proofs.lemmas.Grind.{common_steps}
+use Rattle.std.proofs.lemmas.Bool.Decides.{nat_tests}
 use Rattle.std.proofs.lemmas.List.{length-drop, take_all}
-use Rattle.std.proofs.lemmas.Bool.{cond-true, cond-false, eq-eqb, ne_eqb}
+use Rattle.std.specs.List.{before_first, position, position_or_len}
+use Rattle.std.specs.Option.{option_map}
 use Rattle.wording.specs.Words.{before, behind}
 
-record Split (s : ℕ) (bs front : List ℕ) (back : Option (List ℕ)) : Type 0 where
-  front_is : front ≡ before s bs
-  back_is : back ≡ behind s bs
+before_is : (s : ℕ) (bs : List ℕ) → before s bs ≡ before_first (λ b. eqb b s) bs
+before_is s [] = refl
+before_is s (b ∷ bs) =
+    let n = position_or_len (λ x. eqb x s) bs in
+    elim (eqb b s) as (λ v. cond v [] (b ∷ before s bs) ≡ take (cond (not v) (1 + n) 0) (b ∷ bs)) [
+      | true ↦ refl
+      | false ↦ grind (arith, common_steps, before_is s bs)
+    ]
 
-split_here : (s : ℕ) (bs : List ℕ) (i : ℕ) → i < length bs → ((k : ℕ) → k < i → get_or bs k 0 ≡ s → ⊥) → get_or bs i 0 ≡ s → Split s bs (take i bs) (Some (drop (suc i) bs))
-split_here s [] i h n e = absurd (omega arith)
-split_here s (b ∷ bs) zero h n e = record { front_is = sym (cond-true (eqb b s) _ _ (eq-eqb b s e)); back_is = sym (cond-true (eqb b s) _ _ (eq-eqb b s e)) }
-split_here s (b ∷ bs) (suc i) h n e =
-    let other = ne_eqb b s (n zero (omega arith)) in
-    let rest = split_here s bs i (omega arith) (λ k l. n (suc k) (omega arith)) e in
-    record {
-      front_is = ap (λ (l : List ℕ). b ∷ l) rest.front_is ∙ sym (cond-false (eqb b s) _ _ other);
-      back_is = rest.back_is ∙ sym (cond-false (eqb b s) _ _ other);
-    }
+behind_is : (s : ℕ) (bs : List ℕ) → behind s bs ≡ option_map (λ i. drop (i + 1) bs) (position (λ b. eqb b s) bs)
+behind_is s [] = refl
+behind_is s (b ∷ bs) =
+    let n = position_or_len (λ x. eqb x s) bs in
+    elim (eqb b s) as (λ v. cond v (Some bs) (behind s bs) ≡ option_map (λ i. drop (i + 1) (b ∷ bs)) (cond (ltb (cond (not v) (1 + n) 0) (length (b ∷ bs))) (Some (cond (not v) (1 + n) 0)) None)) [
+      | true ↦ grind (arith, common_steps)
+      | false ↦ grind (arith, common_steps, behind_is s bs)
+    ]
 
--- the parts, as they are cut
-pub split_front : (s : ℕ) (bs : List ℕ) (i : ℕ) → i < length bs → ((k : ℕ) → k < i → get_or bs k 0 ≡ s → ⊥) → get_or bs i 0 ≡ s → take (i - 0) bs ≡ before s bs
-split_front s bs i h n e = ap (λ (m : ℕ). take m bs) (sub-zero i) ∙ (split_here s bs i h n e).front_is
+-- the parts at a separator's place
+pub front_at : (s i : ℕ) (bs : List ℕ) → position (λ b. eqb b s) bs ≡ Some i → take i bs ≡ before s bs
+front_at s i bs e = grind (arith, nat_tests, before_is s bs)
 
-pub split_back : (s : ℕ) (bs : List ℕ) (i : ℕ) → i < length bs → ((k : ℕ) → k < i → get_or bs k 0 ≡ s → ⊥) → get_or bs i 0 ≡ s → Some (take (length bs - (i + 1)) (drop (i + 1) bs)) ≡ behind s bs
-split_back s bs i h n e =
-    ap Some (take_all (length bs - (i + 1)) (drop (i + 1) bs) (omega (arith, length-drop (i + 1) bs)) ∙ ap (λ (m : ℕ). drop m bs) (add-one i)) ∙ (split_here s bs i h n e).back_is
+pub back_at : (s i : ℕ) (bs : List ℕ) → position (λ b. eqb b s) bs ≡ Some i → Some (take (length bs - (i + 1)) (drop (i + 1) bs)) ≡ behind s bs
+back_at s i bs e =
+    ap Some (take_all (length bs - (i + 1)) (drop (i + 1) bs) (omega (arith, length-drop (i + 1) bs))) ∙ sym (behind_is s bs ∙ ap (option_map (λ j. drop (j + 1) bs)) e)
 
-split_none : (s : ℕ) (bs : List ℕ) → ((k : ℕ) → k < length bs → get_or bs k 0 ≡ s → ⊥) → Split s bs bs None
-split_none s [] n = record { front_is = refl; back_is = refl }
-split_none s (b ∷ bs) n =
-    let other = ne_eqb b s (n zero (omega arith)) in
-    let rest = split_none s bs (λ k l. n (suc k) (omega arith)) in
-    record {
-      front_is = ap (λ (l : List ℕ). b ∷ l) rest.front_is ∙ sym (cond-false (eqb b s) _ _ other);
-      back_is = rest.back_is ∙ sym (cond-false (eqb b s) _ _ other);
-    }
+-- and with no separator
+pub front_whole : (s : ℕ) (bs : List ℕ) → position (λ b. eqb b s) bs ≡ None → bs ≡ before s bs
+front_whole s bs e = grind (arith, common_steps, nat_tests, before_is s bs)
 
-pub whole_front : (s : ℕ) (bs : List ℕ) → ((k : ℕ) → k < length bs → get_or bs k 0 ≡ s → ⊥) → bs ≡ before s bs
-whole_front s bs n = (split_none s bs n).front_is
-
-pub no_back : (s : ℕ) (bs : List ℕ) → ((k : ℕ) → k < length bs → get_or bs k 0 ≡ s → ⊥) → None ≡ behind s bs
-no_back s bs n = (split_none s bs n).back_is
+pub back_none : (s : ℕ) (bs : List ℕ) → position (λ b. eqb b s) bs ≡ None → None ≡ behind s bs
+back_none s bs e = sym (behind_is s bs ∙ ap (option_map (λ j. drop (j + 1) bs)) e)

@@ -1,48 +1,40 @@
 // Numbers and floats, from the words that write them.
-ghost use Rattle.std.specs.Prelude.{◌≡◌, ◌+◌, ◌-◌, ◌*◌, ◌^◌, ◌<◌, length};
+ghost use Rattle.std.specs.Prelude.{◌≡◌, ◌<◌, ◌≤◌, length, MatchOption};
 ghost use Rattle.std.specs.Option.{SomeIff};
-ghost use Rattle.std.specs.Str.Parse.{AllDigits, digits_value};
+ghost use Rattle.std.specs.Str.Parse.{AllDigits, IsNumeral, digits_value};
 ghost use Rattle.std.specs.Char.{digit_value};
 ghost use Rattle.wording.specs.Numbers.{number_read, integer_read, integer_within, ReadsFloat};
 
 use crate::malformed::Malformed;
 use std::num::f32_from_bits_with_nan;
+use std::str::from_utf8;
 
-// The number with one more decimal digit behind it; none where that has more than 64 bits.
-fn appended(number: u64, digit: u8) -> Option<u64>
-    ensures { SomeIff result (number * 10 + digit < 2 ^ 64) (number * 10 + digit) }
+// A word of one digit or more of this radix, as a text; none for any other.
+fn numeral(word: &[u8], radix: u32) -> Option<&str>
+    requires low { 2 ≤ radix }
+    requires high { radix ≤ 36 }
+    ensures { MatchOption result (¬ IsNumeral radix word.now) (λ t. IsNumeral radix word.now × (t.now ≡ word.now)) }
 {
-    number.checked_mul(10)?.checked_add(u64::from(digit))
+    if word.is_empty() || !word.iter().all(|byte| char::from(*byte).is_digit(radix)) {
+        return None;
+    }
+    from_utf8(word).ok()
 }
 
 // The number of 64 bits that a word of decimal digits writes.
+#[tactic(auto, using(crate::proofs::Numbers::not_numeral))]
 pub fn decimal(word: &[u8]) -> Result<u64, Malformed>
     ensures { result ≡ number_read 64 word.now }
 {
-    if word.is_empty() {
-        return Err(Malformed::NotANumber);
-    }
-    let mut number = Some(0);
-    for byte in word {
-        if !byte.is_ascii_digit() {
-            return Err(Malformed::NotANumber);
-        }
-        number = match number {
-            Some(number) => appended(number, byte - b'0'),
-            None => None,
-        };
-    }
-    number.ok_or(Malformed::OutOfRange)
+    let digits = numeral(word, 10).ok_or(Malformed::NotANumber)?;
+    digits.parse().map_err(|_| Malformed::OutOfRange)
 }
 
 // The number as one of 32 bits.
 fn within(number: i128) -> Result<i32, Malformed>
     ensures { result ≡ integer_within number }
 {
-    match i32::try_from(number) {
-        Ok(number) => Ok(number),
-        Err(_) => Err(Malformed::OutOfRange),
-    }
+    i32::try_from(number).map_err(|_| Malformed::OutOfRange)
 }
 
 // The number of 32 bits that a word of decimal digits writes, which may have a minus sign in front.
@@ -63,31 +55,25 @@ pub fn hex_digit(byte: u8) -> Option<u32>
 }
 
 // The number of 32 bits that eight hex digits write.
+#[tactic(auto, using(crate::proofs::Numbers::hex_parsed))]
 fn hex_word(digits: &[u8]) -> Option<u32>
     ensures { SomeIff result ((length digits.now ≡ 8) × AllDigits 16 digits.now) (digits_value 16 digits.now) }
 {
     if digits.len() != 8 {
         return None;
     }
-    let mut number = 0;
-    for byte in digits {
-        number = number * 16 + hex_digit(*byte)?;
-    }
-    Some(number)
+    u32::from_str_radix(numeral(digits, 16)?, 16).ok()
 }
 
 // The float of whose bits a word writes the eight hex digits, behind 0x.
 pub fn float(word: &[u8]) -> Result<f32, Malformed>
     ensures { ReadsFloat word.now result }
 {
-    let Some((prefix, digits)) = word.split_at_checked(2) else {
-        return Err(Malformed::NotAFloat);
-    };
-    if prefix != b"0x".as_slice() {
-        return Err(Malformed::NotAFloat);
-    }
-    match hex_word(digits) {
-        Some(bits) => Ok(f32_from_bits_with_nan(bits)),
-        None => Err(Malformed::NotAFloat),
-    }
+    let digits = word
+        .strip_prefix(b"0x".as_slice())
+        .ok_or(Malformed::NotAFloat)?;
+    // In a closure, since std's function has no contract that is seen where it is passed by its name.
+    hex_word(digits)
+        .map(|bits| f32_from_bits_with_nan(bits))
+        .ok_or(Malformed::NotAFloat)
 }

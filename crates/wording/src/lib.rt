@@ -8,5 +8,5 @@ mod words;
 
 pub use digits::{decimal, float, integer};
 pub use malformed::Malformed;
-pub use quote::{HexByte, Quoted, unquote};
+pub use quote::{Quoted, unquote};
 pub use words::Words;

@@ -1,7 +1,6 @@
 // Quoted texts.
-ghost use Rattle.std.specs.Prelude.{◌≡◌, ◌<◌, Some};
-ghost use Rattle.std.specs.Char.{digit_char};
-ghost use Rattle.wording.specs.Quoting.{hex_byte, hex_pair, quoted, quoted_byte, step_of, unquoted, unquoted_from, ReadBack, ReadsAs};
+ghost use Rattle.std.specs.Prelude.{◌≡◌, Some};
+ghost use Rattle.wording.specs.Quoting.{hex_pair, quoted, quoted_byte, step_of, unquoted, unquoted_from, ReadBack, ReadsAs};
 ghost use Rattle.wording.specs.declared.quote.Place.TheVariants.{Between};
 
 use crate::digits::hex_digit;
@@ -61,63 +60,36 @@ impl Place {
 }
 
 // Puts the text that stands behind an opening quote in the place of what `out` holds.
+#[tactic(auto, using(crate::proofs::Quoting::read_on))]
 fn unquote_rest(rest: &[u8], out: &mut Vec<u8>) -> Result<(), Malformed>
     ensures { ReadsAs (unquoted_from Between rest.now) result out.new.items }
 {
     out.clear();
     let mut place = Place::Between;
     for byte in rest {
-        let Some(Step { next, done }) = place.step(*byte) else {
-            return Err(Malformed::BadText);
-        };
+        let Step { next, done } = place.step(*byte).ok_or(Malformed::BadText)?;
         place = next;
         if let Some(done) = done {
             out.push(done)?;
         }
     }
-    match place {
-        Place::Closed => Ok(()),
-        _ => Err(Malformed::BadText),
+    if place == Place::Closed {
+        Ok(())
+    } else {
+        Err(Malformed::BadText)
     }
 }
 
 // Puts the text that a quoted text writes in the place of what `out` holds.
+#[tactic(auto, using(crate::proofs::ReadBack::read_back))]
 pub fn unquote(text: &[u8], out: &mut Vec<u8>) -> Result<(), Malformed>
     ensures reads { ReadsAs (unquoted text.now) result out.new.items }
     ensures back { ReadBack }
 {
-    let Some((first, rest)) = text.split_first() else {
+    let [b'"', rest @ ..] = text else {
         return Err(Malformed::BadText);
     };
-    if *first != b'"' {
-        return Err(Malformed::BadText);
-    }
     unquote_rest(rest, out)
-}
-
-// The small hex digit of this value.
-fn hex_char(value: u8) -> char
-    requires { value < 16 }
-    ensures value { result ≡ digit_char value }
-    ensures ascii { result < 128 }
-{
-    if value < 10 {
-        char::from(b'0' + value)
-    } else {
-        char::from(b'a' - 10 + value)
-    }
-}
-
-// A byte as two hex digits.
-#[derive(Clone, Copy)]
-pub struct HexByte(pub u8);
-
-impl fmt::Display for HexByte {
-    ghost output = { λ x. Some (hex_byte x.0) };
-
-    fn fmt<W: fmt::Write>(&self, f: &mut fmt::Formatter<W>) -> fmt::Result {
-        write!(f, "{}{}", hex_char(self.0 / 16), hex_char(self.0 % 16))
-    }
 }
 
 // A byte of a quoted text.
@@ -132,7 +104,7 @@ impl fmt::Display for QuotedByte {
             b'"' => write!(f, "\\\""),
             b'\\' => write!(f, "\\\\"),
             b' '..=b'~' => write!(f, "{}", char::from(self.0)),
-            byte => write!(f, "\\x{}", HexByte(byte)),
+            byte => write!(f, "\\x{byte:02x}"),
         }
     }
 }

@@ -1,12 +1,10 @@
 // What can be read of a converter. A reading changes nothing.
-ghost use Rattle.std.specs.Prelude.{◌≡◌, is_some};
-ghost use Rattle.std.specs.Option.{option_map, ok_or};
+ghost use Rattle.std.specs.Prelude.{◌≡◌, is_some, Some, None, IfOk, IfErr};
+ghost use Rattle.std.specs.Option.{option_map};
 ghost use Rattle.ei.specs.Capabilities.{mask_at};
 ghost use Rattle.ei.specs.declared.error.EventError.TheVariants as refusals;
 ghost use Rattle.records.specs.Listing.{entry_at};
-ghost use Rattle.records.specs.Rows.{first};
-ghost use Rattle.tables.specs.Rules.{seat_by_handle, device_by_handle};
-ghost use Rattle.converter.specs.Contract.{model, shown_as};
+ghost use Rattle.converter.specs.Contract.{model, seat_at, device_at, of_seat, of_device, shown_as};
 
 use super::EiEventConverter;
 use ei::capability::DeviceCapability;
@@ -16,7 +14,9 @@ use ei::error::EventError;
 use ei::interface::Interface;
 use ei::text::Text;
 use host::Host;
+use records::device::DeviceRow;
 use records::regions::Regions;
+use records::seat::SeatRow;
 
 impl<H: Host> EiEventConverter<H> {
     // The last serial that the server sent.
@@ -26,99 +26,85 @@ impl<H: Host> EiEventConverter<H> {
         self.tables.serial()
     }
 
+    // The record of a seat.
+    pub(super) fn seat_row(&self, seat: u32) -> Result<&SeatRow, EventError>
+        ensures found { IfOk result (λ row. seat_at seat (model self.now) ≡ Some row.now) }
+        ensures missing { IfErr result (λ e. (seat_at seat (model self.now) ≡ None) × (e ≡ refusals.NoSuchHandle)) }
+    {
+        self.tables.seat(seat).ok_or(EventError::NoSuchHandle)
+    }
+
+    // The record of a device.
+    fn device_row(&self, device: u32) -> Result<&DeviceRow, EventError>
+        ensures found { IfOk result (λ row. device_at device (model self.now) ≡ Some row.now) }
+        ensures missing { IfErr result (λ e. (device_at device (model self.now) ≡ None) × (e ≡ refusals.NoSuchHandle)) }
+    {
+        self.tables.device(device).ok_or(EventError::NoSuchHandle)
+    }
+
     // The number by which the server knows a seat.
     pub fn seat_number(&self, seat: u32) -> Result<u64, EventError>
-        ensures { result ≡ ok_or (option_map (λ row. row.head.number) (first (seat_by_handle seat) (model self.now).seats)) refusals.NoSuchHandle }
+        ensures { result ≡ of_seat seat (λ row. row.head.number) (model self.now) }
     {
-        match self.tables.seat(seat) {
-            Some(row) => Ok(row.head.number),
-            None => Err(EventError::NoSuchHandle),
-        }
+        Ok(self.seat_row(seat)?.head.number)
     }
 
     pub fn seat_name(&self, seat: u32) -> Result<Option<Text>, EventError>
-        ensures { result ≡ ok_or (option_map (λ row. row.name) (first (seat_by_handle seat) (model self.now).seats)) refusals.NoSuchHandle }
+        ensures { result ≡ of_seat seat (λ row. row.name) (model self.now) }
     {
-        match self.tables.seat(seat) {
-            Some(row) => Ok(row.name),
-            None => Err(EventError::NoSuchHandle),
-        }
+        Ok(self.seat_row(seat)?.name)
     }
 
     // The mask by which a seat's server knows a capability; 0 where it gave none.
     pub fn seat_mask(&self, seat: u32, capability: DeviceCapability) -> Result<u64, EventError>
-        ensures { result ≡ ok_or (option_map (λ row. mask_at row.masks capability) (first (seat_by_handle seat) (model self.now).seats)) refusals.NoSuchHandle }
+        ensures { result ≡ of_seat seat (λ row. mask_at row.masks capability) (model self.now) }
     {
-        match self.tables.seat(seat) {
-            Some(row) => Ok(row.masks.get(capability)),
-            None => Err(EventError::NoSuchHandle),
-        }
+        Ok(self.seat_row(seat)?.masks.get(capability))
     }
 
     // The number by which the server knows a device.
     pub fn device_number(&self, device: u32) -> Result<u64, EventError>
-        ensures { result ≡ ok_or (option_map (λ row. row.head.number) (first (device_by_handle device) (model self.now).devices)) refusals.NoSuchHandle }
+        ensures { result ≡ of_device device (λ row. row.head.number) (model self.now) }
     {
-        match self.tables.device(device) {
-            Some(row) => Ok(row.head.number),
-            None => Err(EventError::NoSuchHandle),
-        }
+        Ok(self.device_row(device)?.head.number)
     }
 
     // The handle of a device's seat.
     pub fn device_seat(&self, device: u32) -> Result<u32, EventError>
-        ensures { result ≡ ok_or (option_map (λ row. row.seat) (first (device_by_handle device) (model self.now).devices)) refusals.NoSuchHandle }
+        ensures { result ≡ of_device device (λ row. row.seat) (model self.now) }
     {
-        match self.tables.device(device) {
-            Some(row) => Ok(row.seat),
-            None => Err(EventError::NoSuchHandle),
-        }
+        Ok(self.device_row(device)?.seat)
     }
 
     pub fn device_name(&self, device: u32) -> Result<Option<Text>, EventError>
-        ensures { result ≡ ok_or (option_map (λ row. row.description.name) (first (device_by_handle device) (model self.now).devices)) refusals.NoSuchHandle }
+        ensures { result ≡ of_device device (λ row. row.description.name) (model self.now) }
     {
-        match self.tables.device(device) {
-            Some(row) => Ok(row.description.name),
-            None => Err(EventError::NoSuchHandle),
-        }
+        Ok(self.device_row(device)?.description.name)
     }
 
     pub fn device_type(&self, device: u32) -> Result<Option<DeviceType>, EventError>
-        ensures { result ≡ ok_or (option_map (λ row. row.description.device_type) (first (device_by_handle device) (model self.now).devices)) refusals.NoSuchHandle }
+        ensures { result ≡ of_device device (λ row. row.description.device_type) (model self.now) }
     {
-        match self.tables.device(device) {
-            Some(row) => Ok(row.description.device_type),
-            None => Err(EventError::NoSuchHandle),
-        }
+        Ok(self.device_row(device)?.description.device_type)
     }
 
     // Width and height.
     pub fn device_dimensions(&self, device: u32) -> Result<Option<(u32, u32)>, EventError>
-        ensures { result ≡ ok_or (option_map (λ row. row.description.dimensions) (first (device_by_handle device) (model self.now).devices)) refusals.NoSuchHandle }
+        ensures { result ≡ of_device device (λ row. row.description.dimensions) (model self.now) }
     {
-        match self.tables.device(device) {
-            Some(row) => Ok(row.description.dimensions),
-            None => Err(EventError::NoSuchHandle),
-        }
+        Ok(self.device_row(device)?.description.dimensions)
     }
 
     pub fn device_regions(&self, device: u32) -> Result<Regions, EventError>
-        ensures { result ≡ ok_or (option_map (λ row. row.description.regions) (first (device_by_handle device) (model self.now).devices)) refusals.NoSuchHandle }
+        ensures { result ≡ of_device device (λ row. row.description.regions) (model self.now) }
     {
-        match self.tables.device(device) {
-            Some(row) => Ok(row.description.regions),
-            None => Err(EventError::NoSuchHandle),
-        }
+        Ok(self.device_row(device)?.description.regions)
     }
 
     pub fn device_keymap(&self, device: u32) -> Result<Option<Keymap>, EventError>
-        ensures { result ≡ ok_or (option_map (λ row. row.description.keymap) (first (device_by_handle device) (model self.now).devices)) refusals.NoSuchHandle }
+        ensures { result ≡ of_device device (λ row. row.description.keymap) (model self.now) }
     {
-        match self.tables.device(device) {
-            Some(row) => Ok(row.description.keymap),
-            None => Err(EventError::NoSuchHandle),
-        }
+        Ok(self.device_row(device)?.description.keymap)
     }
 
     // Whether a device lists an object of a capability's interface.
@@ -127,24 +113,16 @@ impl<H: Host> EiEventConverter<H> {
         device: u32,
         capability: DeviceCapability,
     ) -> Result<bool, EventError>
-        ensures { result ≡ ok_or (option_map (λ row. is_some (entry_at row.list capability)) (first (device_by_handle device) (model self.now).devices)) refusals.NoSuchHandle }
+        ensures { result ≡ of_device device (λ row. is_some (entry_at row.list capability)) (model self.now) }
     {
-        match self.tables.device(device) {
-            Some(row) => Ok(row.list.get(capability).is_some()),
-            None => Err(EventError::NoSuchHandle),
-        }
+        Ok(self.device_row(device)?.list.get(capability).is_some())
     }
 
     // The object that a device lists for an interface, as that interface's type.
     pub fn interface<T: Interface>(&self, device: u32) -> Result<Option<T>, EventError>
-        ensures { shown_as T.Interface.numbered result ≡ ok_or (option_map (λ row. option_map (λ e. e.object) (entry_at row.list T.Interface.kind)) (first (device_by_handle device) (model self.now).devices)) refusals.NoSuchHandle }
+        ensures { shown_as T.numbered result ≡ of_device device (λ row. option_map (λ e. e.object) (entry_at row.list T.kind)) (model self.now) }
     {
-        match self.tables.device(device) {
-            Some(row) => match row.list.get(T::capability()) {
-                Some(entry) => Ok(Some(T::from_number(entry.object))),
-                None => Ok(None),
-            },
-            None => Err(EventError::NoSuchHandle),
-        }
+        let entry = self.device_row(device)?.list.get(T::capability());
+        Ok(entry.map(|entry| T::from_number(entry.object)))
     }
 }

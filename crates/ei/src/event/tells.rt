@@ -2,12 +2,15 @@ ghost use Rattle.std.specs.Prelude.{◌≡◌};
 ghost use Rattle.ei.specs.Events.{kind_of, timed, device_of, handle_of, time_of, at_time};
 
 use crate::event::{
-    Button, EiEvent, KeyboardKey, PointerMotion, PointerMotionAbsolute, ScrollCancel, ScrollDelta,
-    ScrollDiscrete, ScrollStop, TextKeysym, TextUtf8, TouchCancel, TouchDown, TouchMotion, TouchUp,
+    Button, DeviceAdded, DevicePaused, DeviceRemoved, DeviceResumed, DeviceStartEmulating,
+    DeviceStopEmulating, EiEvent, Frame, KeyboardKey, KeyboardModifiers, PointerMotion,
+    PointerMotionAbsolute, ScrollCancel, ScrollDelta, ScrollDiscrete, ScrollStop, SeatAdded,
+    SeatRemoved, TextKeysym, TextUtf8, TouchCancel, TouchDown, TouchMotion, TouchUp,
 };
 
 impl EiEvent {
-    // The number of the event's kind, from 1 to 25.
+    // The number of the event's kind, from 1 to 25: the rules number the kinds and a line prints the number, and a second enum of the
+    // cases would be turned back to it.
     pub fn kind(&self) -> u8
         ensures { result ≡ kind_of self.now }
     {
@@ -40,7 +43,7 @@ impl EiEvent {
         }
     }
 
-    // Whether the event waits for its device's frame.
+    // Whether the event waits for its device's frame: by the rules, from kind 12 on.
     pub fn is_timed(&self) -> bool
         ensures { result ≡ timed self.now }
     {
@@ -52,97 +55,64 @@ impl EiEvent {
         ensures { result ≡ device_of self.now }
     {
         match self {
-            EiEvent::Disconnected(_) => None,
-            EiEvent::SeatAdded(_) => None,
-            EiEvent::SeatRemoved(_) => None,
-            EiEvent::DeviceAdded(event) => Some(event.device),
-            EiEvent::DeviceRemoved(event) => Some(event.device),
-            EiEvent::DevicePaused(event) => Some(event.device),
-            EiEvent::DeviceResumed(event) => Some(event.device),
-            EiEvent::KeyboardModifiers(event) => Some(event.device),
-            EiEvent::Frame(event) => Some(event.device),
-            EiEvent::DeviceStartEmulating(event) => Some(event.device),
-            EiEvent::DeviceStopEmulating(event) => Some(event.device),
-            EiEvent::PointerMotion(event) => Some(event.device),
-            EiEvent::PointerMotionAbsolute(event) => Some(event.device),
-            EiEvent::Button(event) => Some(event.device),
-            EiEvent::ScrollDelta(event) => Some(event.device),
-            EiEvent::ScrollStop(event) => Some(event.device),
-            EiEvent::ScrollCancel(event) => Some(event.device),
-            EiEvent::ScrollDiscrete(event) => Some(event.device),
-            EiEvent::KeyboardKey(event) => Some(event.device),
-            EiEvent::TouchDown(event) => Some(event.device),
-            EiEvent::TouchUp(event) => Some(event.device),
-            EiEvent::TouchMotion(event) => Some(event.device),
-            EiEvent::TouchCancel(event) => Some(event.device),
-            EiEvent::TextKeysym(event) => Some(event.device),
-            EiEvent::TextUtf8(event) => Some(event.device),
+            EiEvent::Disconnected(_) | EiEvent::SeatAdded(_) | EiEvent::SeatRemoved(_) => None,
+            EiEvent::DeviceAdded(DeviceAdded { device })
+            | EiEvent::DeviceRemoved(DeviceRemoved { device })
+            | EiEvent::DevicePaused(DevicePaused { device, .. })
+            | EiEvent::DeviceResumed(DeviceResumed { device, .. })
+            | EiEvent::KeyboardModifiers(KeyboardModifiers { device, .. })
+            | EiEvent::Frame(Frame { device, .. })
+            | EiEvent::DeviceStartEmulating(DeviceStartEmulating { device, .. })
+            | EiEvent::DeviceStopEmulating(DeviceStopEmulating { device, .. })
+            | EiEvent::PointerMotion(PointerMotion { device, .. })
+            | EiEvent::PointerMotionAbsolute(PointerMotionAbsolute { device, .. })
+            | EiEvent::Button(Button { device, .. })
+            | EiEvent::ScrollDelta(ScrollDelta { device, .. })
+            | EiEvent::ScrollStop(ScrollStop { device, .. })
+            | EiEvent::ScrollCancel(ScrollCancel { device, .. })
+            | EiEvent::ScrollDiscrete(ScrollDiscrete { device, .. })
+            | EiEvent::KeyboardKey(KeyboardKey { device, .. })
+            | EiEvent::TouchDown(TouchDown { device, .. })
+            | EiEvent::TouchUp(TouchUp { device, .. })
+            | EiEvent::TouchMotion(TouchMotion { device, .. })
+            | EiEvent::TouchCancel(TouchCancel { device, .. })
+            | EiEvent::TextKeysym(TextKeysym { device, .. })
+            | EiEvent::TextUtf8(TextUtf8 { device, .. }) => Some(*device),
         }
     }
 
-    // The handle of the seat or the device that the event names; 0 for none.
+    // The handle of the seat or the device that the event names; 0 for none, as the rules and the lines of the output have it.
     pub fn handle(&self) -> u32
         ensures { result ≡ handle_of self.now }
     {
         match self {
-            EiEvent::Disconnected(_) => 0,
-            EiEvent::SeatAdded(event) => event.seat,
-            EiEvent::SeatRemoved(event) => event.seat,
-            EiEvent::DeviceAdded(event) => event.device,
-            EiEvent::DeviceRemoved(event) => event.device,
-            EiEvent::DevicePaused(event) => event.device,
-            EiEvent::DeviceResumed(event) => event.device,
-            EiEvent::KeyboardModifiers(event) => event.device,
-            EiEvent::Frame(event) => event.device,
-            EiEvent::DeviceStartEmulating(event) => event.device,
-            EiEvent::DeviceStopEmulating(event) => event.device,
-            EiEvent::PointerMotion(event) => event.device,
-            EiEvent::PointerMotionAbsolute(event) => event.device,
-            EiEvent::Button(event) => event.device,
-            EiEvent::ScrollDelta(event) => event.device,
-            EiEvent::ScrollStop(event) => event.device,
-            EiEvent::ScrollCancel(event) => event.device,
-            EiEvent::ScrollDiscrete(event) => event.device,
-            EiEvent::KeyboardKey(event) => event.device,
-            EiEvent::TouchDown(event) => event.device,
-            EiEvent::TouchUp(event) => event.device,
-            EiEvent::TouchMotion(event) => event.device,
-            EiEvent::TouchCancel(event) => event.device,
-            EiEvent::TextKeysym(event) => event.device,
-            EiEvent::TextUtf8(event) => event.device,
+            EiEvent::SeatAdded(SeatAdded { seat }) | EiEvent::SeatRemoved(SeatRemoved { seat }) =>
+                *seat,
+            _ => self.device().unwrap_or(0),
         }
     }
 
-    // The event's time in microseconds; 0 where it has none.
+    // The event's time in microseconds; 0 where it has none, as the rules and the lines of the output have it.
     pub fn time(&self) -> u64
         ensures { result ≡ time_of self.now }
     {
         match self {
-            EiEvent::Disconnected(_) => 0,
-            EiEvent::SeatAdded(_) => 0,
-            EiEvent::SeatRemoved(_) => 0,
-            EiEvent::DeviceAdded(_) => 0,
-            EiEvent::DeviceRemoved(_) => 0,
-            EiEvent::DevicePaused(_) => 0,
-            EiEvent::DeviceResumed(_) => 0,
-            EiEvent::KeyboardModifiers(_) => 0,
-            EiEvent::Frame(event) => event.time,
-            EiEvent::DeviceStartEmulating(_) => 0,
-            EiEvent::DeviceStopEmulating(_) => 0,
-            EiEvent::PointerMotion(event) => event.time,
-            EiEvent::PointerMotionAbsolute(event) => event.time,
-            EiEvent::Button(event) => event.time,
-            EiEvent::ScrollDelta(event) => event.time,
-            EiEvent::ScrollStop(event) => event.time,
-            EiEvent::ScrollCancel(event) => event.time,
-            EiEvent::ScrollDiscrete(event) => event.time,
-            EiEvent::KeyboardKey(event) => event.time,
-            EiEvent::TouchDown(event) => event.time,
-            EiEvent::TouchUp(event) => event.time,
-            EiEvent::TouchMotion(event) => event.time,
-            EiEvent::TouchCancel(event) => event.time,
-            EiEvent::TextKeysym(event) => event.time,
-            EiEvent::TextUtf8(event) => event.time,
+            EiEvent::Frame(Frame { time, .. })
+            | EiEvent::PointerMotion(PointerMotion { time, .. })
+            | EiEvent::PointerMotionAbsolute(PointerMotionAbsolute { time, .. })
+            | EiEvent::Button(Button { time, .. })
+            | EiEvent::ScrollDelta(ScrollDelta { time, .. })
+            | EiEvent::ScrollStop(ScrollStop { time, .. })
+            | EiEvent::ScrollCancel(ScrollCancel { time, .. })
+            | EiEvent::ScrollDiscrete(ScrollDiscrete { time, .. })
+            | EiEvent::KeyboardKey(KeyboardKey { time, .. })
+            | EiEvent::TouchDown(TouchDown { time, .. })
+            | EiEvent::TouchUp(TouchUp { time, .. })
+            | EiEvent::TouchMotion(TouchMotion { time, .. })
+            | EiEvent::TouchCancel(TouchCancel { time, .. })
+            | EiEvent::TextKeysym(TextKeysym { time, .. })
+            | EiEvent::TextUtf8(TextUtf8 { time, .. }) => *time,
+            _ => 0,
         }
     }
 

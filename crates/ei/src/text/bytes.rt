@@ -34,8 +34,6 @@ fn with_zeros(bytes: &[u8]) -> [u8; 128]
     ensures { result ≡ padded 128 bytes.now }
 {
     let mut buffer = [0; 128];
-    for (i, byte) in bytes.iter().enumerate() {
-        buffer[i] = *byte;
-    }
+    buffer[..bytes.len()].copy_from_slice(bytes);
     buffer
 }

@@ -4,8 +4,10 @@ ghost use Rattle.records.specs.Listing.{entry_at, no_entries, with_entry, all_ow
 use super::{Entry, InterfaceList};
 use ei::capability::DeviceCapability;
 use ei::object::Object;
+use std::array;
 
 impl InterfaceList {
+    #[tactic(auto, using(crate::proofs::Listing::same_list), unfolding(crate::specs::Listing::no_entries))]
     pub fn new() -> InterfaceList
         ensures { result ≡ no_entries }
     {
@@ -19,6 +21,7 @@ impl InterfaceList {
     }
 
     // Another entry for a kind, or none.
+    #[tactic(auto, using(crate::proofs::Listing::same_list), unfolding(crate::specs::Listing::with_entry))]
     pub fn put(&mut self, kind: DeviceCapability, entry: Option<Entry>)
         ensures { self.new ≡ with_entry kind entry self.old }
     {
@@ -28,50 +31,40 @@ impl InterfaceList {
     pub fn lists(&self, object: Object) -> bool
         ensures { result ≡ lists object self.now }
     {
-        match self.get(object.kind) {
-            Some(entry) => entry.object == object.number,
-            None => false,
-        }
+        self.get(object.kind)
+            .is_some_and(|entry| entry.object == object.number)
     }
 
     pub fn owns(&self, object: Object) -> bool
         ensures { result ≡ owns object self.now }
     {
-        match self.get(object.kind) {
-            Some(entry) => entry.owned && entry.object == object.number,
-            None => false,
-        }
+        self.get(object.kind)
+            .is_some_and(|entry| entry.owned && entry.object == object.number)
     }
 
     // All that is listed is owned.
     pub fn own_all(&mut self)
         ensures { self.new ≡ all_owned self.old }
     {
-        for i in 0..7 {
-            self.entries[i] = owned(self.entries[i]);
-        }
+        self.entries = self.entries.map(owned);
     }
 
     // Nothing that the other list has is owned any more.
     pub fn give_up(&mut self, other: InterfaceList)
         ensures { self.new ≡ given_up other self.old }
     {
-        for i in 0..7 {
-            self.entries[i] = disowned(other.entries[i], self.entries[i]);
-        }
+        let entries = self.entries;
+        self.entries = array::from_fn(|kind| disowned(other.entries[kind], entries[kind]));
     }
 }
 
 fn owned(entry: Option<Entry>) -> Option<Entry>
     ensures { result ≡ owned_entry entry }
 {
-    match entry {
-        Some(entry) => Some(Entry {
-            object: entry.object,
-            owned: true,
-        }),
-        None => None,
-    }
+    entry.map(|entry| Entry {
+        owned: true,
+        ..entry
+    })
 }
 
 // The entry as it is once another device has taken over, or ended, the other list's object of this kind.
@@ -80,8 +73,8 @@ fn disowned(other: Option<Entry>, entry: Option<Entry>) -> Option<Entry>
 {
     match (other, entry) {
         (Some(other), Some(entry)) if other.object == entry.object => Some(Entry {
-            object: entry.object,
             owned: false,
+            ..entry
         }),
         _ => entry,
     }

@@ -5,6 +5,7 @@ use super::Regions;
 use ei::device::Region;
 
 impl Regions {
+    #[tactic(auto, using(crate::proofs::Places::same_regions), unfolding(crate::specs::Places::no_regions))]
     pub fn new() -> Regions
         ensures { result ≡ no_regions }
     {
@@ -32,7 +33,7 @@ impl Regions {
     pub fn push(&mut self, region: Region)
         ensures { self.new ≡ with_region region self.old }
     {
-        if self.count < 8 {
+        if !self.is_full() {
             self.items[self.count] = region;
             self.count += 1;
         }
@@ -42,6 +43,6 @@ impl Regions {
     pub fn as_slice(&self) -> &[Region]
         ensures { result.now ≡ regions_of self.now }
     {
-        &self.items[0..self.count]
+        &self.items[..self.count]
     }
 }

@@ -1,8 +1,8 @@
 // Small histories of an event store.
+use crate::tests::play::seen;
 use ei::enums::KeyState;
 use ei::error::EventError;
 use ei::event::{DevicePaused, EiEvent, Frame, KeyboardKey, SeatAdded};
-use std::process::Abort;
 use std::test::Fail;
 use store::EventStore;
 
@@ -40,29 +40,6 @@ fn filled(rt: &HostRuntime, seats: u32) -> Result<EventStore, Fail> {
     Ok(store)
 }
 
-// The next event is of this kind, names this handle and has this time.
-fn gives(
-    rt: &impl Abort,
-    store: &mut EventStore,
-    kind: u8,
-    handle: u32,
-    time: u64,
-) -> Result<(), Fail> {
-    match store.next() {
-        Some(event) => {
-            assert_eq!(rt; event.kind(), kind);
-            assert_eq!(rt; event.handle(), handle);
-            assert_eq!(rt; event.time(), time);
-            Ok(())
-        }
-        None => Err(Fail::new("no event is queued")),
-    }
-}
-
-fn gives_none(rt: &impl Abort, store: &mut EventStore) {
-    assert!(rt; store.next().is_none());
-}
-
 #[test]
 fn timed_events_leave_two_places(rt: HostRuntime) -> Result<(), Fail> {
     let mut store = filled(&rt, 253)?;
@@ -96,7 +73,8 @@ fn frame_finds_no_place(rt: HostRuntime) -> Result<(), Fail> {
     assert_eq!(rt; store.commit(frame(2, 50)), Ok(()));
     assert_eq!(rt; store.held(), 256);
     assert!(rt; store.has_pending(1));
-    gives(&rt, &mut store, 2, 0, 0)
+    assert_eq!(rt; store.next().map(seen), Some((2, 0, 0)));
+    Ok(())
 }
 
 #[test]
@@ -108,7 +86,7 @@ fn queue_takes_the_last_place(rt: HostRuntime) -> Result<(), Fail> {
     assert!(rt; store.fits(0));
     assert_eq!(rt; store.queue(seat(9)), Err(EventError::StoreFull));
     assert_eq!(rt; store.held(), 256);
-    gives(&rt, &mut store, 2, 0, 0)?;
+    assert_eq!(rt; store.next().map(seen), Some((2, 0, 0)));
     assert_eq!(rt; store.queue(seat(9)), Ok(()));
     Ok(())
 }
@@ -124,14 +102,14 @@ fn frame_of_another_device(rt: HostRuntime) -> Result<(), Fail> {
     store.commit(frame(2, 50))?;
     assert!(rt; store.has_pending(1));
     assert!(rt; !store.has_pending(2));
-    gives(&rt, &mut store, 19, 2, 50)?;
-    gives(&rt, &mut store, 9, 2, 50)?;
-    gives_none(&rt, &mut store);
+    assert_eq!(rt; store.next().map(seen), Some((19, 2, 50)));
+    assert_eq!(rt; store.next().map(seen), Some((9, 2, 50)));
+    assert!(rt; store.next().is_none());
     store.commit(frame(1, 60))?;
-    gives(&rt, &mut store, 19, 1, 60)?;
-    gives(&rt, &mut store, 19, 1, 60)?;
-    gives(&rt, &mut store, 9, 1, 60)?;
-    gives_none(&rt, &mut store);
+    assert_eq!(rt; store.next().map(seen), Some((19, 1, 60)));
+    assert_eq!(rt; store.next().map(seen), Some((19, 1, 60)));
+    assert_eq!(rt; store.next().map(seen), Some((9, 1, 60)));
+    assert!(rt; store.next().is_none());
     Ok(())
 }
 
@@ -140,12 +118,12 @@ fn pause_forces_a_frame(rt: HostRuntime) -> Result<(), Fail> {
     let mut store = EventStore::new(rt.alloc())?;
     store.hold(key(2, 31))?;
     store.queue_framed(frame(2, 1500), paused(2))?;
-    gives(&rt, &mut store, 19, 2, 1500)?;
-    gives(&rt, &mut store, 9, 2, 1500)?;
-    gives(&rt, &mut store, 6, 2, 0)?;
+    assert_eq!(rt; store.next().map(seen), Some((19, 2, 1500)));
+    assert_eq!(rt; store.next().map(seen), Some((9, 2, 1500)));
+    assert_eq!(rt; store.next().map(seen), Some((6, 2, 0)));
     store.queue_framed(frame(2, 1600), paused(2))?;
-    gives(&rt, &mut store, 6, 2, 0)?;
-    gives_none(&rt, &mut store);
+    assert_eq!(rt; store.next().map(seen), Some((6, 2, 0)));
+    assert!(rt; store.next().is_none());
     Ok(())
 }
 
@@ -175,7 +153,8 @@ fn discarded_events_are_gone(rt: HostRuntime) -> Result<(), Fail> {
     assert!(rt; !store.has_pending(1));
     assert!(rt; store.has_pending(2));
     assert_eq!(rt; store.held(), 2);
-    gives(&rt, &mut store, 2, 1, 0)
+    assert_eq!(rt; store.next().map(seen), Some((2, 1, 0)));
+    Ok(())
 }
 
 #[test]
@@ -187,7 +166,7 @@ fn queued_events_name_handles(rt: HostRuntime) -> Result<(), Fail> {
     store.queue(paused(5))?;
     assert!(rt; store.names(4));
     assert!(rt; store.names(5));
-    gives(&rt, &mut store, 2, 4, 0)?;
+    assert_eq!(rt; store.next().map(seen), Some((2, 4, 0)));
     assert!(rt; !store.names(4));
     Ok(())
 }

@@ -5,6 +5,7 @@ use crate::samples::{
 };
 use crate::tests::play::play;
 use ei::enums::DeviceType;
+use ei::error::EventError;
 use host::Note;
 use std::test::Fail;
 
@@ -100,7 +101,10 @@ fn former_owner_destroyed(rt: HostRuntime) -> Result<(), Fail> {
             Line::Does(Call::Device(202, DeviceCall::Done)),
             Line::Does(Call::Keyboard(301, PRESS_30)),
             Line::Does(Call::Device(201, DeviceCall::Destroyed(8))),
-            Line::Refuses(Call::Keyboard(301, RELEASE_30), 1),
+            Line::Refuses(
+                Call::Keyboard(301, RELEASE_30),
+                EventError::DeviceEventBeforeDone,
+            ),
             Line::Next(2, 1, 0),
             Line::Next(4, 2, 0),
             Line::Next(4, 3, 0),
@@ -121,8 +125,8 @@ fn callback_is_run_once(rt: HostRuntime) -> Result<(), Fail> {
     play(
         &rt,
         &[
-            Line::AddCallback(900, 7, 0),
-            Line::AddCallback(900, 77, 0),
+            Line::AddCallback(900, 7, Ok(())),
+            Line::AddCallback(900, 77, Ok(())),
             Line::Does(Call::Callback(900, DONE)),
             Line::Does(Call::Callback(900, DONE)),
             Line::Take(Some(Note::Run {

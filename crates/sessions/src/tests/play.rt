@@ -9,105 +9,103 @@ use ei::error::EventError;
 use ei::event::{EiEvent, SeatAdded};
 use ei::set::CapabilitySet;
 use host::KeptHost;
-use std::alloc::Global;
 use std::process::Abort;
 use std::test::Fail;
 
-pub type Converter = EiEventConverter<KeptHost>;
+// What a test sees of an event: its kind, its handle and its time.
+pub fn seen(event: EiEvent) -> (u8, u32, u64) {
+    (event.kind(), event.handle(), event.time())
+}
 
-pub fn begun(heap: Global, serial: u32) -> Result<Converter, Fail> {
-    let host = KeptHost::new(heap)?;
-    match Converter::new(heap, host, serial) {
-        Ok(converter) => Ok(converter),
-        Err(_) => Err(Fail::new("memory is short")),
+// A test that plays a session, and its converter.
+#[derive(Drop)]
+pub struct Player<'a, R> {
+    rt: &'a R,
+    pub converter: EiEventConverter<KeptHost>,
+}
+
+impl<'a, R: Abort + AllocGlobal> Player<'a, R> {
+    // Begins with this serial.
+    pub fn new(rt: &'a R, serial: u32) -> Result<Player<'a, R>, Fail> {
+        let host = KeptHost::new(rt.alloc())?;
+        let converter = EiEventConverter::new(rt.alloc(), host, serial).map_err(|_| Fail::new(
+            "memory is short",
+        ))?;
+        Ok(Player { rt, converter })
     }
-}
 
-// The number of an answer: 0 where the call was done.
-fn number(answer: Result<(), EventError>) -> u8 {
-    match answer {
-        Ok(()) => 0,
-        Err(error) => error.number(),
+    pub fn answers(&mut self, call: Call, answer: Result<(), EventError>) {
+        assert_eq!(self.rt; self.converter.handle_event(event(call)), answer);
     }
-}
 
-pub fn answers(rt: &impl Abort, converter: &mut Converter, call: Call, answer: u8) {
-    assert_eq!(rt; number(converter.handle_event(event(call))), answer);
-}
-
-fn binds(
-    rt: &impl Abort,
-    converter: &mut Converter,
-    seat: u32,
-    set: u8,
-    answer: u8,
-) -> Result<(), Fail> {
-    match CapabilitySet::from_bits(set as u64) {
-        Some(wanted) => {
-            assert_eq!(rt; number(converter.bind_capabilities(seat, wanted)), answer);
-            Ok(())
-        },
-        None => Err(Fail::new("a bit above the seventh")),
-    }
-}
-
-fn repeats(rt: &impl Abort, converter: &mut Converter, times: u32, call: Call) {
-    for _ in 0..times {
-        answers(rt, converter, call, 0);
-    }
-}
-
-fn set_up(rt: &impl Abort, converter: &mut Converter) {
-    for call in [
-        Call::NewSeat(101),
-        Call::Seat(101, SeatCall::Done),
-        Call::Seat(101, SeatCall::Device(201)),
-        Call::Device(201, DeviceCall::Type(DeviceType::Virtual)),
-        Call::Device(201, DeviceCall::Interface(KEYBOARD)),
-        Call::Device(201, DeviceCall::Done),
-    ] {
-        answers(rt, converter, call, 0);
-    }
-}
-
-fn gives(rt: &impl Abort, converter: &mut Converter, kind: u8, handle: u32, time: u64) {
-    let mut place = EiEvent::SeatAdded(SeatAdded { seat: 0 });
-    assert!(rt; converter.next_event(&mut place), "an event is queued");
-    assert_eq!(rt; place.kind(), kind);
-    assert_eq!(rt; place.handle(), handle);
-    assert_eq!(rt; place.time(), time);
-}
-
-// The place is as it was.
-fn gives_none(rt: &impl Abort, converter: &mut Converter) {
-    let mut place = EiEvent::SeatAdded(SeatAdded { seat: 7 });
-    assert!(rt; !converter.next_event(&mut place), "no event is queued");
-    assert_eq!(rt; place.handle(), 7);
-}
-
-// Plays the lines; the first that gives something else fails.
-pub fn play(rt: &(impl Abort + AllocGlobal), lines: &[Line]) -> Result<(), Fail> {
-    let mut converter = begun(rt.alloc(), 5)?;
-    for line in lines {
-        match *line {
-            Line::Start(serial) => converter = begun(rt.alloc(), serial)?,
-            Line::Setup => set_up(rt, &mut converter),
-            Line::Reading(micros) => converter.host.set_reading(micros),
-            Line::Does(call) => answers(rt, &mut converter, call, 0),
-            Line::Repeats(times, call) => repeats(rt, &mut converter, times, call),
-            Line::Refuses(call, answer) => answers(rt, &mut converter, call, answer),
-            Line::AddCallback(callback, ticket, answer) => assert_eq!(rt;
-                number(converter.add_callback_handler(callback, ticket)),
-                answer
-            ),
-            Line::Bind(seat, set, answer) => binds(rt, &mut converter, seat, set, answer)?,
-            Line::Next(kind, handle, time) => gives(rt, &mut converter, kind, handle, time),
-            Line::NoNext => gives_none(rt, &mut converter),
-            Line::Take(note) => assert_eq!(rt; converter.host.take_note(), note),
-            Line::Serial(serial) => assert_eq!(rt; converter.serial(), serial),
+    fn set_up(&mut self) {
+        for call in [
+            Call::NewSeat(101),
+            Call::Seat(101, SeatCall::Done),
+            Call::Seat(101, SeatCall::Device(201)),
+            Call::Device(201, DeviceCall::Type(DeviceType::Virtual)),
+            Call::Device(201, DeviceCall::Interface(KEYBOARD)),
+            Call::Device(201, DeviceCall::Done),
+        ] {
+            self.answers(call, Ok(()));
         }
     }
-    Ok(())
+
+    // The next event; where there is none, the place for it is as it was.
+    pub fn next(&mut self) -> Option<EiEvent> {
+        let mut place = EiEvent::SeatAdded(SeatAdded { seat: 7 });
+        if self.converter.next_event(&mut place) {
+            return Some(place);
+        }
+        assert_eq!(self.rt; place.handle(), 7);
+        None
+    }
+
+    pub fn plays(&mut self, line: Line) -> Result<(), Fail> {
+        let rt = self.rt;
+        match line {
+            Line::Start(serial) => *self = Player::new(rt, serial)?,
+            Line::Setup => self.set_up(),
+            Line::Reading(micros) => self.converter.host.set_reading(micros),
+            Line::Does(call) => self.answers(call, Ok(())),
+            Line::Repeats(times, call) => {
+                for _ in 0..times {
+                    self.answers(call, Ok(()));
+                }
+            },
+            Line::Refuses(call, error) => self.answers(call, Err(error)),
+            Line::AddCallback(callback, ticket, answer) => assert_eq!(rt;
+                self.converter.add_callback_handler(callback, ticket),
+                answer
+            ),
+            Line::Bind(seat, set, answer) => {
+                let wanted = CapabilitySet::from_bits(u64::from(set));
+                let bound = wanted.map(|wanted| self.converter.bind_capabilities(seat, wanted));
+                assert_eq!(rt; bound, Some(answer));
+            },
+            Line::Next(kind, handle, time) => assert_eq!(rt;
+                self.next().map(seen),
+                Some((kind, handle, time))
+            ),
+            Line::NoNext => assert!(rt; self.next().is_none(), "no event is queued"),
+            Line::Take(note) => assert_eq!(rt; self.converter.host.take_note(), note),
+            Line::Serial(serial) => assert_eq!(rt; self.converter.serial(), serial),
+        }
+        Ok(())
+    }
+
+    // Plays the lines; the first that gives something else fails.
+    pub fn play(&mut self, lines: &[Line]) -> Result<(), Fail> {
+        for line in lines {
+            self.plays(*line)?;
+        }
+        Ok(())
+    }
+}
+
+// Plays the lines with a converter that begins with serial 5.
+pub fn play(rt: &(impl Abort + AllocGlobal), lines: &[Line]) -> Result<(), Fail> {
+    Player::new(rt, 5)?.play(lines)
 }
 
 #[test]

@@ -1,16 +1,24 @@
 // What an interface object says.
+ghost use Rattle.std.specs.Prelude.{◌≡◌};
 ghost use Rattle.tables.specs.Rests.{Takes};
-ghost use Rattle.tables.specs.Shown.{model_of};
-ghost use Rattle.tables.specs.Told.{keyboard_call, pointer_call, pointer_absolute_call, button_call};
+ghost use Rattle.tables.specs.Told.{object_of, keyboard_call, pointer_call, pointer_absolute_call, button_call};
 
 use super::Tables;
 use crate::rest::Rest;
 use ei::capability::DeviceCapability;
 use ei::device::Keymap;
 use ei::error::EventError;
-use ei::event::{Button, EiEvent, KeyboardModifiers, PointerMotion, PointerMotionAbsolute};
+use ei::event::{
+    Button, EiEvent, KeyboardKey, KeyboardModifiers, PointerMotion, PointerMotionAbsolute,
+};
 use ei::object::Object;
 use ei::proto::{ButtonEvent, KeyboardEvent, PointerAbsoluteEvent, PointerEvent};
+
+pub(super) fn object_of(kind: DeviceCapability, number: u64) -> Object
+    ensures { result ≡ object_of kind number }
+{
+    Object { kind, number }
+}
 
 impl Tables {
     pub(super) fn keyboard_event(
@@ -18,12 +26,9 @@ impl Tables {
         keyboard: u64,
         event: KeyboardEvent,
     ) -> Result<Rest, EventError>
-        ensures { Takes (keyboard_call keyboard event) (model_of self.old) result (model_of self.new) }
+        ensures { Takes (keyboard_call keyboard event) self.old result self.new }
     {
-        let object = Object {
-            kind: DeviceCapability::Keyboard,
-            number: keyboard,
-        };
+        let object = object_of(DeviceCapability::Keyboard, keyboard);
         match event {
             KeyboardEvent::Keymap {
                 keymap_type,
@@ -37,24 +42,30 @@ impl Tables {
                     type_: keymap_type,
                 },
             ),
-            KeyboardEvent::Key { key, state } => self.key(object, key, state),
+            KeyboardEvent::Key { key, state } => self.act(object, |device| {
+                EiEvent::KeyboardKey(KeyboardKey {
+                    device,
+                    time: 0,
+                    key,
+                    state,
+                })
+            }),
             KeyboardEvent::Modifiers {
                 serial,
                 depressed,
                 locked,
                 latched,
                 group,
-            } => {
-                let event = KeyboardModifiers {
-                    device: 0,
+            } => self.modifiers(keyboard, serial, |device| {
+                EiEvent::KeyboardModifiers(KeyboardModifiers {
+                    device,
                     serial,
                     depressed,
                     latched,
                     locked,
                     group,
-                };
-                self.modifiers(keyboard, event)
-            }
+                })
+            }),
             KeyboardEvent::Destroyed { serial } => self.object_gone(object, serial),
         }
     }
@@ -64,22 +75,18 @@ impl Tables {
         pointer: u64,
         event: PointerEvent,
     ) -> Result<Rest, EventError>
-        ensures { Takes (pointer_call pointer event) (model_of self.old) result (model_of self.new) }
+        ensures { Takes (pointer_call pointer event) self.old result self.new }
     {
-        let object = Object {
-            kind: DeviceCapability::Pointer,
-            number: pointer,
-        };
+        let object = object_of(DeviceCapability::Pointer, pointer);
         match event {
-            PointerEvent::MotionRelative { x, y } => {
-                let device = self.owner(object)?;
-                self.hold(EiEvent::PointerMotion(PointerMotion {
+            PointerEvent::MotionRelative { x, y } => self.act(object, |device| {
+                EiEvent::PointerMotion(PointerMotion {
                     device,
                     time: 0,
                     dx: x,
                     dy: y,
-                }))
-            }
+                })
+            }),
             PointerEvent::Destroyed { serial } => self.object_gone(object, serial),
         }
     }
@@ -89,23 +96,18 @@ impl Tables {
         pointer: u64,
         event: PointerAbsoluteEvent,
     ) -> Result<Rest, EventError>
-        ensures { Takes (pointer_absolute_call pointer event) (model_of self.old) result (model_of self.new) }
+        ensures { Takes (pointer_absolute_call pointer event) self.old result self.new }
     {
-        let object = Object {
-            kind: DeviceCapability::PointerAbsolute,
-            number: pointer,
-        };
+        let object = object_of(DeviceCapability::PointerAbsolute, pointer);
         match event {
-            PointerAbsoluteEvent::MotionAbsolute { x, y } => {
-                let device = self.owner(object)?;
-                let event = PointerMotionAbsolute {
+            PointerAbsoluteEvent::MotionAbsolute { x, y } => self.act(object, |device| {
+                EiEvent::PointerMotionAbsolute(PointerMotionAbsolute {
                     device,
                     time: 0,
                     dx_absolute: x,
                     dy_absolute: y,
-                };
-                self.hold(EiEvent::PointerMotionAbsolute(event))
-            }
+                })
+            }),
             PointerAbsoluteEvent::Destroyed { serial } => self.object_gone(object, serial),
         }
     }
@@ -115,22 +117,18 @@ impl Tables {
         button: u64,
         event: ButtonEvent,
     ) -> Result<Rest, EventError>
-        ensures { Takes (button_call button event) (model_of self.old) result (model_of self.new) }
+        ensures { Takes (button_call button event) self.old result self.new }
     {
-        let object = Object {
-            kind: DeviceCapability::Button,
-            number: button,
-        };
+        let object = object_of(DeviceCapability::Button, button);
         match event {
-            ButtonEvent::Button { button, state } => {
-                let device = self.owner(object)?;
-                self.hold(EiEvent::Button(Button {
+            ButtonEvent::Button { button, state } => self.act(object, |device| {
+                EiEvent::Button(Button {
                     device,
                     time: 0,
                     button,
                     state,
-                }))
-            }
+                })
+            }),
             ButtonEvent::Destroyed { serial } => self.object_gone(object, serial),
         }
     }

@@ -1,16 +1,15 @@
 // Empty tables, and what can be asked of them.
-ghost use Rattle.std.specs.Prelude.{◌≡◌, not, IfOk};
+ghost use Rattle.std.specs.Prelude.{◌≡◌, IfOk};
 ghost use Rattle.std.specs.Option.{ok_or};
 ghost use Rattle.ei.specs.declared.error.EventError.TheVariants as refusals;
-ghost use Rattle.store.specs.Contents.{contents};
-ghost use Rattle.store.specs.Moves.{can_commit, can_hold, has_pending};
+ghost use Rattle.store.specs.Moves.{has_pending};
 ghost use Rattle.tables.specs.Model.{fresh};
-ghost use Rattle.tables.specs.Rules.{no_places_for, owner_of};
-ghost use Rattle.tables.specs.Shown.{model_of};
+ghost use Rattle.tables.specs.Refusal.{refusal, checked, of_places, of_places_and_handles};
+ghost use Rattle.tables.specs.Rules.{next_handle, no_handle, no_places_for, owner_of};
 
 use super::Tables;
+use crate::shortage::Shortage;
 use ei::error::EventError;
-use ei::event::Frame;
 use ei::object::Object;
 use records::table::Table;
 use std::alloc::{AllocError, Global};
@@ -19,7 +18,7 @@ use store::EventStore;
 impl Tables {
     // Empty tables with all their room reserved.
     pub fn new(heap: Global, serial: u32) -> Result<Tables, AllocError>
-        ensures { IfOk result (λ t. model_of t ≡ fresh serial) }
+        ensures { IfOk result (λ t. t ≡ fresh serial) }
     {
         let seats = Table::new(heap)?;
         let devices = Table::new(heap)?;
@@ -37,47 +36,52 @@ impl Tables {
 
     // The last serial that the server sent.
     pub fn serial(&self) -> u32
-        ensures { result ≡ (model_of self.now).serial }
+        ensures { result ≡ self.now.serial }
     {
         self.serial
     }
 
     // Whether an event of a device waits for its frame.
     pub fn has_pending(&self, device: u32) -> bool
-        ensures { result ≡ has_pending device (model_of self.now).store }
+        ensures { result ≡ has_pending device self.now.store }
     {
         self.store.has_pending(device)
     }
 
     // Whether an untimed event of a device, and the frame that it may force, find no place.
     pub(super) fn lacks_places(&self, device: u32) -> bool
-        ensures { result ≡ no_places_for device (contents self.now.store) }
+        ensures { result ≡ no_places_for device self.now.store }
     {
-        let needed = if self.store.has_pending(device) { 2 } else { 1 };
-        !self.store.fits(needed)
+        !self.store.can_queue_framed(device)
     }
 
-    // Whether no timed event finds a place.
-    pub(super) fn lacks_hold(&self) -> bool
-        ensures { result ≡ not (can_hold (contents self.now.store)) }
+    // Refuses an untimed event of a device for which there is no place.
+    pub(super) fn check_places(&self, device: u32) -> Result<(), EventError>
+        ensures { result ≡ checked (refusal (of_places (no_places_for device self.now.store))) tt }
     {
-        self.store.held() >= 254
+        let short = Shortage {
+            store_full: self.lacks_places(device),
+            ..Shortage::NONE
+        };
+        short.check()
     }
 
-    // Whether a frame, if it queues anything, finds a place.
-    pub(super) fn can_commit(&self, frame: Frame) -> bool
-        ensures { result ≡ can_commit frame (contents self.now.store) }
+    // The next handle, refused where there is none or where what tells of it finds no place.
+    pub(super) fn next_handle(&self, store_full: bool) -> Result<u32, EventError>
+        ensures { result ≡ checked (refusal (of_places_and_handles store_full (no_handle self.now))) (next_handle self.now) }
     {
-        if self.store.has_pending(frame.device) {
-            self.store.fits(1)
-        } else {
-            true
-        }
+        let short = Shortage {
+            store_full,
+            handles_used_up: self.handles >= 1_000_000,
+            ..Shortage::NONE
+        };
+        short.check()?;
+        Ok(self.handles + 1)
     }
 
     // The handle that owns an object.
     pub(super) fn owner(&self, object: Object) -> Result<u32, EventError>
-        ensures { result ≡ ok_or (owner_of object (model_of self.now)) refusals.DeviceEventBeforeDone }
+        ensures { result ≡ ok_or (owner_of object self.now) refusals.DeviceEventBeforeDone }
     {
         self.devices
             .owner(object)

@@ -1,20 +1,21 @@
 // Each low-level event, by its interface.
+ghost use Rattle.std.specs.Prelude.{◌≡◌};
 ghost use Rattle.tables.specs.Rests.{Takes};
-ghost use Rattle.tables.specs.Shown.{model_of};
 ghost use Rattle.tables.specs.Told.{told, connection_call, callback_call, seat_call, device_call};
 
 use super::Tables;
 use crate::rest::Rest;
 use ei::device::Region;
 use ei::error::EventError;
+use ei::event::{DevicePaused, DeviceResumed, DeviceStartEmulating, DeviceStopEmulating, EiEvent};
 use ei::proto::{CallbackEvent, ConnectionEvent, DeviceEvent, Event, SeatEvent};
-use records::device::Detail;
-use records::standing::Standing;
+use records::device::{Detail, Stage};
+use records::standing::Key;
 
 impl Tables {
     // Takes an event, and answers what is left of it for the host to do.
     pub fn handle(&mut self, event: Event<'_>) -> Result<Rest, EventError>
-        ensures { Takes (told event.entry) (model_of self.old) result (model_of self.new) }
+        ensures { Takes (told event.entry) self.old result self.new }
     {
         match event {
             Event::Handshake => Err(EventError::UnexpectedHandshakeEvent),
@@ -33,7 +34,7 @@ impl Tables {
     }
 
     fn connection_event(&mut self, event: ConnectionEvent<'_>) -> Result<Rest, EventError>
-        ensures { Takes (connection_call event.entry) (model_of self.old) result (model_of self.new) }
+        ensures { Takes (connection_call event.entry) self.old result self.new }
     {
         match event {
             ConnectionEvent::Seat { seat } => self.seat_arrives(seat),
@@ -52,21 +53,22 @@ impl Tables {
 
     // An unknown callback is accepted.
     fn callback_event(&mut self, callback: u64, event: CallbackEvent) -> Result<Rest, EventError>
-        ensures { Takes (callback_call callback event) (model_of self.old) result (model_of self.new) }
+        ensures { Takes (callback_call callback event) self.old result self.new }
     {
         let CallbackEvent::Done { callback_data } = event;
-        match self.callbacks.first(callback, Standing::Live) {
-            Some(row) => Ok(Rest::Run {
+        let known = self.callbacks.first(Key::live(callback));
+        Ok(known.map_or(
+            Rest::Nothing,
+            |row| Rest::Run {
                 callback,
                 ticket: row.ticket,
                 data: callback_data,
-            }),
-            None => Ok(Rest::Nothing),
-        }
+            },
+        ))
     }
 
     fn seat_event(&mut self, seat: u64, event: SeatEvent<'_>) -> Result<Rest, EventError>
-        ensures { Takes (seat_call seat event.entry) (model_of self.old) result (model_of self.new) }
+        ensures { Takes (seat_call seat event.entry) self.old result self.new }
     {
         match event {
             SeatEvent::Name { name } => self.seat_named(seat, name),
@@ -78,17 +80,17 @@ impl Tables {
     }
 
     fn device_event(&mut self, device: u64, event: DeviceEvent<'_>) -> Result<Rest, EventError>
-        ensures { Takes (device_call device event.entry) (model_of self.old) result (model_of self.new) }
+        ensures { Takes (device_call device event.entry) self.old result self.new }
     {
         match event {
-            DeviceEvent::Name { name } => self.device_named(device, name),
-            DeviceEvent::DeviceType { device_type } => self.device_detailed(
+            DeviceEvent::Name { name } => self.device_worded(device, name, Detail::Name),
+            DeviceEvent::DeviceType { device_type } => self.device_told(
                 device,
-                Detail::Type(device_type),
+                Stage::Setup(Detail::Type(device_type)),
             ),
-            DeviceEvent::Dimensions { width, height } => self.device_detailed(
+            DeviceEvent::Dimensions { width, height } => self.device_told(
                 device,
-                Detail::Dimensions(width, height),
+                Stage::Setup(Detail::Dimensions(width, height)),
             ),
             DeviceEvent::Region {
                 offset_x,
@@ -96,30 +98,52 @@ impl Tables {
                 width,
                 height,
                 scale,
-            } => self.device_placed(
+            } => self.device_placed(device, region(offset_x, offset_y, width, height, scale)),
+            DeviceEvent::RegionMappingId { mapping_id } => self.device_worded(
                 device,
-                Region {
-                    x: offset_x,
-                    y: offset_y,
-                    width,
-                    height,
-                    scale,
-                    mapping_id: None,
-                },
+                mapping_id,
+                Detail::MappingId,
             ),
-            DeviceEvent::RegionMappingId { mapping_id } => self.device_mapped(device, mapping_id),
             DeviceEvent::Interface { object } => self.device_equipped(device, object),
             DeviceEvent::Done => self.device_ready(device),
-            DeviceEvent::Resumed { serial } => self.device_resumed(device, serial),
-            DeviceEvent::Paused { serial } => self.device_paused(device, serial),
-            DeviceEvent::StartEmulating { serial, sequence } => self.device_starts(
-                device, serial, sequence,
+            DeviceEvent::Resumed { serial } => self.says(device, serial, |device| {
+                EiEvent::DeviceResumed(DeviceResumed { device, serial })
+            }),
+            DeviceEvent::Paused { serial } => self.says(device, serial, |device| {
+                EiEvent::DevicePaused(DevicePaused { device, serial })
+            }),
+            DeviceEvent::StartEmulating { serial, sequence } => self.says(
+                device,
+                serial,
+                |device| {
+                    EiEvent::DeviceStartEmulating(DeviceStartEmulating {
+                        device,
+                        serial,
+                        sequence,
+                    })
+                },
             ),
-            DeviceEvent::StopEmulating { serial } => self.device_stops(device, serial),
+            DeviceEvent::StopEmulating { serial } => self.says(device, serial, |device| {
+                EiEvent::DeviceStopEmulating(DeviceStopEmulating { device, serial })
+            }),
             DeviceEvent::Frame { serial, timestamp } => self.device_framed(
                 device, serial, timestamp,
             ),
             DeviceEvent::Destroyed { serial } => self.device_gone(device, serial),
         }
+    }
+}
+
+// A region as it is told, with no mapping id yet.
+fn region(x: u32, y: u32, width: u32, height: u32, scale: f32) -> Region
+    ensures { result ≡ record { x = x; y = y; width = width; height = height; scale = scale; mapping_id = None } }
+{
+    Region {
+        x,
+        y,
+        width,
+        height,
+        scale,
+        mapping_id: None,
     }
 }

@@ -1,82 +1,60 @@
 // Records that are no longer wanted.
-ghost use Rattle.std.specs.Prelude.{◌≡◌, nat_eq};
-ghost use Rattle.records.specs.Rows.{any};
-ghost use Rattle.tables.specs.Rules.{device_retirable, device_retired, owns_any, seat_retirable, seat_retired};
-ghost use Rattle.tables.specs.Shown.{model_of};
+ghost use Rattle.std.specs.Prelude.{◌≡◌, false, not, cond, nat_eq, if◌then◌else◌};
+ghost use Rattle.ei.specs.declared.error.EventError.TheVariants as refusals;
+ghost use Rattle.records.specs.Rows.{any, same_standing};
+ghost use Rattle.records.specs.declared.standing.Standing.TheVariants as standings;
+ghost use Rattle.store.specs.Moves.{names};
+ghost use Rattle.tables.specs.Rules.{device_retired, owns_any, seat_retired};
 
 use super::Tables;
 use ei::capability::DeviceCapability;
 use ei::error::EventError;
 use records::device::DeviceRow;
 use records::list::InterfaceList;
-use records::seat::SeatRow;
-use records::standing::Standing;
+use records::standing::{Head, Standing};
 
 impl Tables {
-    // Frees a device's record, and discards its pending events.
+    // Frees the record of a device that owns nothing, and discards its pending events.
     pub fn retire_device(&mut self, handle: u32) -> Result<(), EventError>
-        ensures answer { result ≡ (device_retired handle (model_of self.old)).answer }
-        ensures after { model_of self.new ≡ (device_retired handle (model_of self.old)).after }
+        ensures answer { result ≡ (device_retired handle self.old).answer }
+        ensures after { self.new ≡ (device_retired handle self.old).after }
     {
-        let Some(row) = self.devices.by_handle(handle) else {
-            return Err(EventError::NoSuchHandle);
-        };
-        if !self.may_retire_device(row) {
-            return Err(EventError::HandleBusy);
-        }
+        let row = self
+            .devices
+            .by_handle(handle)
+            .ok_or(EventError::NoSuchHandle)?;
+        self.check_unused(row.head, owns_any(&row.list))?;
         self.devices.remove_handle(handle);
         self.store.discard(handle);
         Ok(())
     }
 
-    // Frees a seat's record.
+    // Frees the record of a seat that no device, however it stands, is of.
     pub fn retire_seat(&mut self, handle: u32) -> Result<(), EventError>
-        ensures answer { result ≡ (seat_retired handle (model_of self.old)).answer }
-        ensures after { model_of self.new ≡ (seat_retired handle (model_of self.old)).after }
+        ensures answer { result ≡ (seat_retired handle self.old).answer }
+        ensures after { self.new ≡ (seat_retired handle self.old).after }
     {
-        let Some(row) = self.seats.by_handle(handle) else {
-            return Err(EventError::NoSuchHandle);
-        };
-        if !self.may_retire_seat(row) {
-            return Err(EventError::HandleBusy);
-        }
+        let row = self
+            .seats
+            .by_handle(handle)
+            .ok_or(EventError::NoSuchHandle)?;
+        let head = row.head;
+        self.check_unused(head, some_of_seat(self.devices.rows(), head.handle))?;
         self.seats.remove_handle(handle);
         Ok(())
     }
 
-    // A device is detached, owns nothing, and no event still to be handed out names it.
-    fn may_retire_device(&self, row: &DeviceRow) -> bool
-        ensures { result ≡ device_retirable row.now (model_of self.now).store }
+    // Refuses a record that is not detached, that has something of its own, or that an event still to be handed out names.
+    fn check_unused(&self, head: Head, has_own: bool) -> Result<(), EventError>
+        ensures { result ≡ (if cond (same_standing head.standing standings.Detached) (cond has_own false (not (names head.handle self.now.store))) false then Ok tt else Err refusals.HandleBusy) }
     {
-        match row.head.standing {
-            Standing::Pending => false,
-            Standing::Live => false,
-            Standing::Detached => {
-                if owns_any(&row.list) {
-                    false
-                } else {
-                    !self.store.names(row.head.handle)
-                }
-            }
+        let in_use = head.standing != Standing::Detached
+            || has_own
+            || self.store.names(head.handle);
+        if in_use {
+            return Err(EventError::HandleBusy);
         }
-    }
-
-    // A seat is detached, no device record is of it, and no event still to be handed out names it.
-    fn may_retire_seat(&self, row: &SeatRow) -> bool
-        ensures { result ≡ seat_retirable row.now (model_of self.now) }
-    {
-        match row.head.standing {
-            Standing::Pending => false,
-            Standing::Live => false,
-            Standing::Detached => {
-                let seat = row.head.handle;
-                if some_of_seat(self.devices.rows(), seat) {
-                    false
-                } else {
-                    !self.store.names(seat)
-                }
-            }
-        }
+        Ok(())
     }
 }
 
@@ -84,24 +62,14 @@ impl Tables {
 fn owns_any(list: &InterfaceList) -> bool
     ensures { result ≡ owns_any list.now.entries }
 {
-    for kind in DeviceCapability::ALL {
-        if let Some(entry) = list.get(kind) {
-            if entry.owned {
-                return true;
-            }
-        }
-    }
-    false
+    DeviceCapability::ALL
+        .iter()
+        .any(|kind| list.get(*kind).is_some_and(|entry| entry.owned))
 }
 
 // Whether a device, however it stands, is of a seat.
 fn some_of_seat(devices: &[DeviceRow], seat: u32) -> bool
     ensures { result ≡ any (λ device. nat_eq device.seat seat) devices.now }
 {
-    for i in 0..devices.len() {
-        if devices[i].seat == seat {
-            return true;
-        }
-    }
-    false
+    devices.iter().any(|device| device.seat == seat)
 }

@@ -1,7 +1,13 @@
 // What is said of a seat.
+ghost use Rattle.std.specs.Prelude.{◌≡◌, if◌then◌else◌};
+ghost use Rattle.ei.specs.declared.error.EventError.TheVariants as refusals;
+ghost use Rattle.records.specs.Rows.{any};
+ghost use Rattle.records.specs.declared.seat.SeatStep.TheVariants as steps;
+ghost use Rattle.records.specs.declared.standing.Standing.TheVariants as standings;
 ghost use Rattle.tables.specs.Calls.{seat_name, seat_capability, seat_done, seat_device, seat_destroyed};
-ghost use Rattle.tables.specs.Rests.{Takes};
-ghost use Rattle.tables.specs.Shown.{model_of};
+ghost use Rattle.tables.specs.Model.{done, with_seats};
+ghost use Rattle.tables.specs.Rests.{Gives, Takes};
+ghost use Rattle.tables.specs.Rules.{of_pending_seat, seat_at, seat_steps};
 
 use super::Tables;
 use crate::rest::Rest;
@@ -11,22 +17,24 @@ use ei::error::EventError;
 use ei::event::{EiEvent, SeatAdded, SeatRemoved};
 use records::device::DeviceRow;
 use records::seat::{SeatSetup, SeatStep};
-use records::standing::{Record, Standing};
+use records::standing::{Key, Record};
 
 impl Tables {
-    pub(super) fn seat_named(&mut self, seat: u64, name: &[u8]) -> Result<Rest, EventError>
-        ensures { Takes (seat_name seat name.now) (model_of self.old) result (model_of self.new) }
+    // A pending seat is told something.
+    fn seat_detailed(&mut self, seat: u64, detail: SeatSetup) -> Result<Rest, EventError>
+        ensures { let m = self.old in Gives (λ _. of_pending_seat seat m (done (with_seats (seat_steps seat standings.Pending (steps.Setup detail) m.seats) m))) result self.new }
     {
-        if !self.seats.has(seat, Standing::Pending) {
-            return Err(EventError::SeatSetupEventAfterDone);
-        }
-        let text = Shortage::NONE.check_text(name)?;
-        self.seats.step(
-            seat,
-            Standing::Pending,
-            SeatStep::Setup(SeatSetup::Name(text)),
-        );
+        self.pending_seat(seat)?;
+        self.seats.step(Key::pending(seat), SeatStep::Setup(detail));
         Ok(Rest::Nothing)
+    }
+
+    pub(super) fn seat_named(&mut self, seat: u64, name: &[u8]) -> Result<Rest, EventError>
+        ensures { Takes (seat_name seat name.now) self.old result self.new }
+    {
+        self.pending_seat(seat)?;
+        let name = Shortage::NONE.check_text(name)?;
+        self.seat_detailed(seat, SeatSetup::Name(name))
     }
 
     pub(super) fn seat_capable(
@@ -35,80 +43,66 @@ impl Tables {
         mask: u64,
         interface: Option<DeviceCapability>,
     ) -> Result<Rest, EventError>
-        ensures { Takes (seat_capability seat mask interface) (model_of self.old) result (model_of self.new) }
+        ensures { Takes (seat_capability seat mask interface) self.old result self.new }
     {
-        if !self.seats.has(seat, Standing::Pending) {
-            return Err(EventError::SeatSetupEventAfterDone);
-        }
-        let Some(capability) = interface else {
-            return Err(EventError::UnknownCapabilityInterface);
-        };
-        self.seats.step(
-            seat,
-            Standing::Pending,
-            SeatStep::Setup(SeatSetup::Capability(capability, mask)),
-        );
-        Ok(Rest::Nothing)
+        self.pending_seat(seat)?;
+        let capability = interface.ok_or(EventError::UnknownCapabilityInterface)?;
+        self.seat_detailed(seat, SeatSetup::Capability(capability, mask))
     }
 
     // The live seat of the number is detached before the pending one is live, so that each step finds its own row.
     pub(super) fn seat_ready(&mut self, seat: u64) -> Result<Rest, EventError>
-        ensures { Takes (seat_done seat) (model_of self.old) result (model_of self.new) }
+        ensures { Takes (seat_done seat) self.old result self.new }
     {
-        if !self.seats.has(seat, Standing::Pending) {
-            return Err(EventError::SeatSetupEventAfterDone);
-        }
-        let short = Shortage {
-            store_full: !self.store.fits(1),
-            handles_used_up: self.handles >= 1_000_000,
-            ..Shortage::NONE
-        };
-        short.check()?;
-        let handle = self.handles + 1;
-        self.seats
-            .step(seat, Standing::Live, SeatStep::Done(handle));
-        self.seats
-            .step(seat, Standing::Pending, SeatStep::Done(handle));
+        self.pending_seat(seat)?;
+        let handle = self.next_handle(!self.store.fits(1))?;
+        self.store
+            .queue(EiEvent::SeatAdded(SeatAdded { seat: handle }))?;
+        self.seats.step(Key::live(seat), SeatStep::Done(handle));
+        self.seats.step(Key::pending(seat), SeatStep::Done(handle));
         self.handles = handle;
-        // there is room
-        let _ = self
-            .store
-            .queue(EiEvent::SeatAdded(SeatAdded { seat: handle }));
         Ok(Rest::Nothing)
     }
 
     pub(super) fn device_arrives(&mut self, seat: u64, device: u64) -> Result<Rest, EventError>
-        ensures { Takes (seat_device seat device) (model_of self.old) result (model_of self.new) }
+        ensures { Takes (seat_device seat device) self.old result self.new }
     {
-        let Some(row) = self.seats.first(seat, Standing::Live) else {
-            return Err(EventError::SeatEventBeforeDone);
-        };
+        let row = self
+            .seats
+            .first(Key::live(seat))
+            .ok_or(EventError::SeatEventBeforeDone)?;
         let new = DeviceRow::new(device, row.head.handle);
-        self.devices.renew(device, Standing::Pending, new)?;
+        self.devices.renew(Key::pending(device), new)?;
         Ok(Rest::Nothing)
     }
 
+    #[tactic(auto, using(crate::proofs::Refused::refused_queue))]
     pub(super) fn seat_gone(&mut self, seat: u64, serial: u32) -> Result<Rest, EventError>
-        ensures { Takes (seat_destroyed seat serial) (model_of self.old) result (model_of self.new) }
+        ensures { Takes (seat_destroyed seat serial) self.old result self.new }
     {
-        let Some(row) = self.seats.first(seat, Standing::Live) else {
-            self.seats.remove(seat, Standing::Pending);
+        let Some(row) = self.seats.first(Key::live(seat)) else {
+            self.seats.remove(Key::pending(seat));
             self.serial = serial;
             return Ok(Rest::Nothing);
         };
-        let handle = row.head.handle;
-        let short = Shortage {
-            store_full: !self.store.fits(1),
-            ..Shortage::NONE
+        let event = SeatRemoved {
+            seat: row.head.handle,
         };
-        short.check()?;
-        self.seats.remove(seat, Standing::Pending);
-        self.seats.step(seat, Standing::Live, SeatStep::Destroyed);
+        self.store.queue(EiEvent::SeatRemoved(event))?;
+        self.seats.remove(Key::pending(seat));
+        self.seats.step(Key::live(seat), SeatStep::Destroyed);
         self.serial = serial;
-        // there is room
-        let _ = self
-            .store
-            .queue(EiEvent::SeatRemoved(SeatRemoved { seat: handle }));
         Ok(Rest::Nothing)
+    }
+
+    // Refuses a seat that is not being set up.
+    fn pending_seat(&self, seat: u64) -> Result<(), EventError>
+        ensures { result ≡ (if any (seat_at seat standings.Pending) self.now.seats then Ok tt else Err refusals.SeatSetupEventAfterDone) }
+    {
+        if self.seats.has(Key::pending(seat)) {
+            Ok(())
+        } else {
+            Err(EventError::SeatSetupEventAfterDone)
+        }
     }
 }

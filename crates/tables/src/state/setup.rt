@@ -1,10 +1,18 @@
 // What is said of a device while it is set up.
 ghost use Rattle.std.specs.Prelude.{◌≡◌};
-ghost use Rattle.tables.specs.Calls.{device_name, device_region, device_mapping_id, device_interface};
-ghost use Rattle.tables.specs.Model.{View};
-ghost use Rattle.tables.specs.Rests.{finish, Takes};
-ghost use Rattle.tables.specs.Rules.{device_detailed};
-ghost use Rattle.tables.specs.Shown.{model_of};
+ghost use Rattle.std.specs.Option.{ok_or};
+ghost use Rattle.std.specs.Result.{result_map_both};
+ghost use Rattle.ei.specs.Texts.{text_of};
+ghost use Rattle.ei.specs.declared.error.EventError.TheVariants as refusals;
+ghost use Rattle.records.specs.Rows.{first};
+ghost use Rattle.records.specs.declared.device.Detail.{Detail};
+ghost use Rattle.records.specs.declared.device.Stage.TheVariants as stages;
+ghost use Rattle.records.specs.declared.standing.Standing.TheVariants as standings;
+ghost use Rattle.tables.specs.Calls.{device_region, device_interface};
+ghost use Rattle.tables.specs.Model.{unless};
+ghost use Rattle.tables.specs.Refusal.{refusal, ample, of_text, too_long};
+ghost use Rattle.tables.specs.Rests.{Gives, Takes};
+ghost use Rattle.tables.specs.Rules.{device_at, device_told, of_pending_device};
 
 use super::Tables;
 use crate::rest::Rest;
@@ -12,94 +20,69 @@ use crate::shortage::Shortage;
 use ei::device::Region;
 use ei::error::EventError;
 use ei::object::Object;
-use records::device::{Detail, DeviceStep, Stage};
-use records::standing::{Record, Standing};
+use ei::text::Text;
+use records::device::{Detail, DeviceRow, DeviceStep, Stage};
+use records::standing::{Key, Record};
 
 impl Tables {
-    pub(super) fn device_detailed(
+    // The device that is being set up.
+    pub(super) fn pending(&self, device: u64) -> Result<&DeviceRow, EventError>
+        ensures { result_map_both (λ row. row.now) (λ e. e) result ≡ ok_or (first (device_at device standings.Pending) self.now.devices) refusals.DeviceSetupEventAfterDone }
+    {
+        self.devices
+            .first(Key::pending(device))
+            .ok_or(EventError::DeviceSetupEventAfterDone)
+    }
+
+    // A pending device is told something.
+    pub(super) fn device_told(&mut self, device: u64, stage: Stage) -> Result<Rest, EventError>
+        ensures { let m = self.old in Gives (λ _. of_pending_device device m (λ _. device_told device stage m)) result self.new }
+    {
+        self.pending(device)?;
+        self.devices
+            .step(Key::pending(device), DeviceStep::Take(stage));
+        Ok(Rest::Nothing)
+    }
+
+    // A pending device is told a text, as this detail.
+    pub(super) fn device_worded<F: FnOnce(Text) -> Detail>(
         &mut self,
         device: u64,
-        detail: Detail,
+        text: &[u8],
+        detail: F,
     ) -> Result<Rest, EventError>
-        ensures { (v : View) → finish v result (model_of self.new) ≡ device_detailed device detail (model_of self.old) }
+        requires { F.IsAlwaysCallable detail }
+        ensures { (d : Detail) → ((e : Detail) → F.post detail (text_of text.now) e → e ≡ d) → Gives (λ _. let m = self.old in of_pending_device device m (λ _. unless (refusal (of_text (too_long text.now) ample)) m (device_told device (stages.Setup d) m))) result self.new }
     {
-        let Some(_) = self.devices.first(device, Standing::Pending) else {
-            return Err(EventError::DeviceSetupEventAfterDone);
-        };
-        self.devices.step(
-            device,
-            Standing::Pending,
-            DeviceStep::Take(Stage::Setup(detail)),
-        );
-        Ok(Rest::Nothing)
-    }
-
-    pub(super) fn device_named(&mut self, device: u64, name: &[u8]) -> Result<Rest, EventError>
-        ensures { Takes (device_name device name.now) (model_of self.old) result (model_of self.new) }
-    {
-        let Some(_) = self.devices.first(device, Standing::Pending) else {
-            return Err(EventError::DeviceSetupEventAfterDone);
-        };
-        let text = Shortage::NONE.check_text(name)?;
-        self.devices.step(
-            device,
-            Standing::Pending,
-            DeviceStep::Take(Stage::Setup(Detail::Name(text))),
-        );
-        Ok(Rest::Nothing)
-    }
-
-    pub(super) fn device_mapped(&mut self, device: u64, id: &[u8]) -> Result<Rest, EventError>
-        ensures { Takes (device_mapping_id device id.now) (model_of self.old) result (model_of self.new) }
-    {
-        let Some(_) = self.devices.first(device, Standing::Pending) else {
-            return Err(EventError::DeviceSetupEventAfterDone);
-        };
-        let text = Shortage::NONE.check_text(id)?;
-        self.devices.step(
-            device,
-            Standing::Pending,
-            DeviceStep::Take(Stage::Setup(Detail::MappingId(text))),
-        );
-        Ok(Rest::Nothing)
+        self.pending(device)?;
+        let text = Shortage::NONE.check_text(text)?;
+        self.device_told(device, Stage::Setup(detail(text)))
     }
 
     pub(super) fn device_placed(&mut self, device: u64, region: Region) -> Result<Rest, EventError>
-        ensures { Takes (device_region device region) (model_of self.old) result (model_of self.new) }
+        ensures { Takes (device_region device region) self.old result self.new }
     {
-        let Some(row) = self.devices.first(device, Standing::Pending) else {
-            return Err(EventError::DeviceSetupEventAfterDone);
-        };
+        let row = self.pending(device)?;
         let short = Shortage {
             regions_full: row.description.regions.is_full(),
             ..Shortage::NONE
         };
         short.check()?;
-        self.devices.step(
-            device,
-            Standing::Pending,
-            DeviceStep::Take(Stage::Setup(Detail::Region(region))),
-        );
-        Ok(Rest::Nothing)
+        self.device_told(device, Stage::Setup(Detail::Region(region)))
     }
 
+    // An object of no kind is not kept.
     pub(super) fn device_equipped(
         &mut self,
         device: u64,
         object: Option<Object>,
     ) -> Result<Rest, EventError>
-        ensures { Takes (device_interface device object) (model_of self.old) result (model_of self.new) }
+        ensures { Takes (device_interface device object) self.old result self.new }
     {
-        let Some(_) = self.devices.first(device, Standing::Pending) else {
-            return Err(EventError::DeviceSetupEventAfterDone);
-        };
-        if let Some(object) = object {
-            self.devices.step(
-                device,
-                Standing::Pending,
-                DeviceStep::Take(Stage::Interface(object)),
-            );
+        self.pending(device)?;
+        match object {
+            Some(object) => self.device_told(device, Stage::Interface(object)),
+            None => Ok(Rest::Nothing),
         }
-        Ok(Rest::Nothing)
     }
 }

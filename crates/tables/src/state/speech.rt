@@ -1,70 +1,74 @@
 // What a live device says of itself.
-ghost use Rattle.tables.specs.Calls.{device_speech, resumed, paused, start_emulating, stop_emulating};
-ghost use Rattle.tables.specs.Rests.{Takes};
-ghost use Rattle.tables.specs.Shown.{model_of};
+ghost use Rattle.std.specs.Prelude.{◌≡◌, ℕ, is_ok, if◌then◌else◌};
+ghost use Rattle.std.specs.Option.{option_map, ok_or};
+ghost use Rattle.ei.specs.declared.error.EventError.TheVariants as refusals;
+ghost use Rattle.ei.specs.declared.event.EiEvent.{EiEvent};
+ghost use Rattle.records.specs.Rows.{first};
+ghost use Rattle.records.specs.declared.standing.Standing.TheVariants as standings;
+ghost use Rattle.tables.specs.Model.{unless, with_serial};
+ghost use Rattle.tables.specs.Refusal.{refusal, of_places};
+ghost use Rattle.tables.specs.Rests.{Gives, Makes};
+ghost use Rattle.tables.specs.Rules.{device_at, device_speaks, no_places_for, untimed_queued};
 
 use super::Tables;
 use crate::rest::Rest;
 use ei::error::EventError;
-use ei::event::{DevicePaused, DeviceResumed, DeviceStartEmulating, DeviceStopEmulating, EiEvent};
+use ei::event::EiEvent;
+use records::standing::Key;
 
 impl Tables {
-    pub(super) fn device_resumed(&mut self, device: u64, serial: u32) -> Result<Rest, EventError>
-        ensures { Takes (device_speech device serial resumed) (model_of self.old) result (model_of self.new) }
-    {
-        let handle = self.live_device(device, serial)?;
-        self.untimed(
-            handle,
-            serial,
-            EiEvent::DeviceResumed(DeviceResumed {
-                device: handle,
-                serial,
-            }),
-        )
-    }
-
-    pub(super) fn device_paused(&mut self, device: u64, serial: u32) -> Result<Rest, EventError>
-        ensures { Takes (device_speech device serial paused) (model_of self.old) result (model_of self.new) }
-    {
-        let handle = self.live_device(device, serial)?;
-        self.untimed(
-            handle,
-            serial,
-            EiEvent::DevicePaused(DevicePaused {
-                device: handle,
-                serial,
-            }),
-        )
-    }
-
-    pub(super) fn device_starts(
+    // What a live device says of itself is an untimed event of its handle.
+    pub(super) fn says<F: FnOnce(u32) -> EiEvent>(
         &mut self,
         device: u64,
         serial: u32,
-        sequence: u32,
+        event: F,
     ) -> Result<Rest, EventError>
-        ensures { Takes (device_speech device serial (start_emulating sequence)) (model_of self.old) result (model_of self.new) }
+        requires { F.IsAlwaysCallable event }
+        ensures { (make : ℕ → EiEvent) → Makes (F.post event) make → Gives (λ v. device_speaks v device serial make self.old) result self.new }
     {
         let handle = self.live_device(device, serial)?;
-        let event = DeviceStartEmulating {
-            device: handle,
-            serial,
-            sequence,
-        };
-        self.untimed(handle, serial, EiEvent::DeviceStartEmulating(event))
+        self.untimed(handle, serial, event(handle))
     }
 
-    pub(super) fn device_stops(&mut self, device: u64, serial: u32) -> Result<Rest, EventError>
-        ensures { Takes (device_speech device serial stop_emulating) (model_of self.old) result (model_of self.new) }
+    // The handle of a live device. Where there is none the serial is set all the same.
+    pub(super) fn live_device(&mut self, device: u64, serial: u32) -> Result<u32, EventError>
+        ensures answer { result ≡ ok_or (option_map (λ row. row.head.handle) (first (device_at device standings.Live) self.old.devices)) refusals.DeviceEventBeforeDone }
+        ensures after { self.new ≡ (if is_ok result then self.old else with_serial serial self.old) }
     {
-        let handle = self.live_device(device, serial)?;
-        self.untimed(
-            handle,
-            serial,
-            EiEvent::DeviceStopEmulating(DeviceStopEmulating {
-                device: handle,
-                serial,
-            }),
-        )
+        let handle = self
+            .devices
+            .first(Key::live(device))
+            .map(|row| row.head.handle);
+        self.handle_or_serial(handle, serial)
+    }
+
+    // The handle that an event with a serial is for. Where there is none the serial is set all the same.
+    pub(super) fn handle_or_serial(
+        &mut self,
+        handle: Option<u32>,
+        serial: u32,
+    ) -> Result<u32, EventError>
+        ensures answer { result ≡ ok_or handle refusals.DeviceEventBeforeDone }
+        ensures after { self.new ≡ (if is_ok result then self.old else with_serial serial self.old) }
+    {
+        if handle.is_none() {
+            self.serial = serial;
+        }
+        handle.ok_or(EventError::DeviceEventBeforeDone)
+    }
+
+    // An untimed event of a device, where it and the frame that it may force find their places.
+    pub(super) fn untimed(
+        &mut self,
+        device: u32,
+        serial: u32,
+        event: EiEvent,
+    ) -> Result<Rest, EventError>
+        ensures { let m = self.old in Gives (λ v. unless (refusal (of_places (no_places_for device m.store))) m (untimed_queued v device event (with_serial serial m))) result self.new }
+    {
+        self.check_places(device)?;
+        self.serial = serial;
+        Ok(Rest::Untimed { device, event })
     }
 }

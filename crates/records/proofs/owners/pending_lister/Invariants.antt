@@ -1,5 +1,5 @@
 use Rattle.std.proofs.Common.{◌≡◌, ℕ, ◌<◌, false, get_or}
-use Rattle.std.specs.List.{HoldsAt, AllWithin}
+use Rattle.std.specs.List.{AllWithin}
 use Rattle.ei.specs.Capabilities.{every_capability}
 use Rattle.ei.specs.declared.capability.DeviceCapability.TheVariants.{Pointer}
 use Rattle.records.specs.Owners.{pending_lists, entry_is}
@@ -11,4 +11,4 @@ invariant-loop-i l = AllWithin (λ row. pending_lists l.keyboard row ≡ false) 
 
 -- no entry that was passed is the keyboard
 abbrev pub invariant-loop-kind : goal.invariant-loop-kind
-invariant-loop-kind l = (k : ℕ) → k < l.kind-index → HoldsAt (λ row. entry_is l.keyboard (get_or every_capability k Pointer) row.list ≡ false) l.devices l.i
+invariant-loop-kind l = (k : ℕ) → k < l.kind-index → entry_is l.keyboard (get_or every_capability k Pointer) l.device.list ≡ false

@@ -1,10 +1,6 @@
-use Rattle.std.proofs.Common.{refl, ap, rules}
-use Rattle.ei.specs.Refusals.{answer_of}
-use Rattle.law.proofs.RecordLaw.{goes_on}
-use Rattle.converter.specs.Contract.{model, view}
+use Rattle.std.proofs.Common.{rules}
+use Rattle.converter.proofs.Laws.{lawful}
 use Rattle.converter.proofs.convert.EiEventConverter.add_callback_handler.Goals as goal
 
-pub returns : goal.returns
-returns g c =
-    let k = c.add_callback.ensures in
-    record { outcome = search rules; law = goes_on (view g.H.Host.reading g.H.Host.notes g.H.Host.spare c.args.self.now.host) _ (model c.args.self.now) _ _ _ (ap answer_of k.answer) refl k.after }
+pub returns-clause-law : goal.returns-clause-law
+returns-clause-law g c = lawful g.H.Host.state _ c.args.self.now (search rules) (search rules) (search rules)

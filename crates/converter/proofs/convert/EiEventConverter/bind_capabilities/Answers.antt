@@ -1,10 +1,9 @@
-use Rattle.std.proofs.Common.{refl, ap}
-use Rattle.ei.specs.Refusals.{answer_of}
-use Rattle.law.proofs.RecordLaw.{goes_on}
-use Rattle.converter.specs.Contract.{model, view}
+use Rattle.std.proofs.Common.{rules}
+use Rattle.converter.proofs.Laws.{lawful}
 use Rattle.converter.proofs.convert.EiEventConverter.bind_capabilities.Goals as goal
 
-pub returns : goal.returns
-returns g c =
-    let k = c.bind_seat.ensures in
-    record { outcome = k; law = goes_on (view g.H.Host.reading g.H.Host.notes g.H.Host.spare c.args.self.now.host) _ (model c.args.self.now) _ _ _ (ap answer_of k.answer) refl k.left }
+pub returns-in_err-row-clause-law : goal.returns-in_err-row-clause-law
+returns-in_err-row-clause-law g c = lawful g.H.Host.state _ c.args.self.now (search rules) (search rules) (search rules)
+
+pub returns-clause-law : goal.returns-clause-law
+returns-clause-law g c = lawful g.H.Host.state _ c.args.self.now (search rules) (search rules) (search rules)

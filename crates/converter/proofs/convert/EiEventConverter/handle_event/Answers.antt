@@ -1,11 +1,9 @@
-use Rattle.std.proofs.Common.{ap}
-use Rattle.ei.specs.Refusals.{answer_of}
-use Rattle.law.proofs.RecordLaw.{goes_on}
-use Rattle.converter.proofs.Handing.{hands_nothing}
-use Rattle.converter.specs.Contract.{model, view}
+use Rattle.std.proofs.Common.{rules}
+use Rattle.converter.proofs.Laws.{lawful}
 use Rattle.converter.proofs.convert.EiEventConverter.handle_event.Goals as goal
 
-pub returns : goal.returns
-returns g c =
-    let k = c.take_event.ensures in
-    record { outcome = k; law = goes_on (view g.H.Host.reading g.H.Host.notes g.H.Host.spare c.args.self.now.host) _ (model c.args.self.now) _ _ _ (ap answer_of k.answer) (hands_nothing c.args.event (model c.args.self.now)) k.left }
+pub returns-in_err-rest-clause-law : goal.returns-in_err-rest-clause-law
+returns-in_err-rest-clause-law g c = lawful g.H.Host.state _ c.args.self.now (search rules) (search rules) (search rules)
+
+pub returns-clause-law : goal.returns-clause-law
+returns-clause-law g c = lawful g.H.Host.state _ c.args.self.now (search rules) (search rules) (search rules)

@@ -1,13 +1,17 @@
-use Rattle.std.proofs.Common.{sym, refl, arith}
-use Rattle.std.proofs.lemmas.List.{set_past}
+use Rattle.std.proofs.Common.{◌≡◌, sym, refl, arith}
+use Rattle.std.proofs.lemmas.Bool.Decides.{nat_tests}
+use Rattle.std.proofs.lemmas.List.{set_past, length-take}
 use Rattle.records.proofs.Places.{same_regions}
 use Rattle.records.specs.Places.{with_region}
 use Rattle.records.proofs.regions.Regions.push.Goals as goal
 
-pub returns-then-self-lt8 : goal.returns-then-self-lt8
+pub returns-then-not-is_full : goal.returns-then-not-is_full
 unfolding with_region
-returns-then-self-lt8 c = same_regions _ (with_region c.args.region c.args.self.now) refl (omega arith)
+returns-then-not-is_full c = same_regions _ (with_region c.args.region c.args.self.now) refl (omega arith)
 
-pub returns-else-self-lt8 : goal.returns-else-self-lt8
+pub returns-else-not-is_full : goal.returns-else-not-is_full
 unfolding with_region
-returns-else-self-lt8 c = same_regions _ (with_region c.args.region c.args.self.now) (sym (set_past c.args.self.now.items c.args.self.now.count c.args.region (omega (arith, c.args.self.now.long)))) (omega arith)
+returns-else-not-is_full c =
+    let here = c.args.self.now in
+    let full : here.count ≡ 8 = grind (arith, nat_tests, length-take here.count here.items) in
+    same_regions _ (with_region c.args.region here) (sym (set_past here.items here.count c.args.region (omega (arith, here.long)))) (omega arith)

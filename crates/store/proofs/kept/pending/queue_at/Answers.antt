@@ -1,49 +1,32 @@
-use Rattle.std.proofs.Common.{[], ◌∷◌, ◌++◌, map, length, take, deque_items, deque_capacity, filter, sym, ap, ◌∙◌, arith}
-use Rattle.std.proofs.lemmas.List.{take_all, length-append, length-map, append_assoc}
-use Rattle.ei.specs.Events.{at_time}
+use Rattle.std.proofs.Common.{ap, length, arith, rules, tests}
+use Rattle.std.proofs.lemmas.Iterator.Consumers.{YieldsList-at, YieldsList-from_filter, YieldsList-turn, YieldsList-end}
+use Rattle.std.proofs.lemmas.Iterator.{YieldsList-from_slice}
 use Rattle.store.specs.Moves.{of}
-use Rattle.store.proofs.Filters.{kept_before, batch_more_yes, batch_more_no}
+use Rattle.store.proofs.Stores.{both_parts}
 use Rattle.store.proofs.kept.pending.queue_at.Goals as goal
-use Rattle.store.proofs.kept.pending.queue_at.Goals.{then-tells, else-tells}
 
+-- what is still to come finds room
 pub push_back_reserved-requires : goal.push_back_reserved-requires
 push_back_reserved-requires c =
-    let i = c.loop-event.event-index in
-    let es = c.args.events.now in
-    let p = of c.args.device in
-    omega (
-      arith,
-      kept_before p es i c.event-item.result c.loop-event-test.true c.event-item.is (sym c.if-tells.ensures),
-      ap length c.loop-event.invariant.0,
-      length-append (deque_items c.args.queued.now) (map (at_time c.args.time) (filter p (take i es))),
-      length-map (filter p (take i es)) (at_time c.args.time),
-    )
+    let turn = YieldsList-turn
+    (YieldsList-at c.into_iter-event-iterator.ensures.into_iter_gives
+    (YieldsList-from_filter _ (of c.args.device) (YieldsList-from_slice c.args.events.now cc) c.filter-event-items.ensures.closure (λ x r q k. search (rules, tests))))
+    c.loop-event.yielded _ c.loop-event.yielded_by _ _ c.in-Some.event c.in-Some.is c.next.ensures.steps in
+    omega (arith, turn.0, both_parts c.args.device c.args.events.now)
 
-pub loop-event-preserved : goal.loop-event-preserved
-loop-event-preserved c =
-    let i = c.loop-event.event-index in
-    let es = c.args.events.now in
-    let old = deque_items c.args.queued.now in
-    let p = of c.args.device in
-    let f = at_time c.args.time in
-    let e = c.event-item.result in
-    elim c.if-tells.branch [
-      | then-tells w ↦ (
-        ap deque_items w.queued-is
-            ∙ (w.push_back_reserved.ensures.items
-            ∙ (ap (λ l. l ++ (w.at_time.result ∷ [])) c.loop-event.invariant.0
-            ∙ (append_assoc old (map f (filter p (take i es))) (w.at_time.result ∷ [])
-            ∙ (ap (λ x. old ++ (map f (filter p (take i es)) ++ (x ∷ []))) w.at_time.ensures
-            ∙ ap (λ l. old ++ l) (sym (batch_more_yes p f es i e c.loop-event-test.true c.event-item.is (sym w.if-tells.ensures))))))),
-        ap deque_capacity w.queued-is ∙ (w.push_back_reserved.ensures.capacity ∙ c.loop-event.invariant.1),
-      )
-      | else-tells w ↦ (
-        ap deque_items w.queued-is ∙ (c.loop-event.invariant.0 ∙ ap (λ l. old ++ l) (sym (batch_more_no p f es i e c.loop-event-test.true c.event-item.is (sym w.if-tells.ensures)))),
-        ap deque_capacity w.queued-is ∙ c.loop-event.invariant.1,
-      )
-    ]
+-- the loop has seen just the device's events
+pub returns-clause-items : goal.returns-clause-items
+returns-clause-items c =
+    let seen = YieldsList-end
+    (YieldsList-at c.into_iter-event-iterator.ensures.into_iter_gives
+    (YieldsList-from_filter _ (of c.args.device) (YieldsList-from_slice c.args.events.now cc) c.filter-event-items.ensures.closure (λ x r q k. search (rules, tests))))
+    c.loop-event.yielded _ c.loop-event.yielded_by _ _ c.in-None.is c.next.ensures.steps in
+    rw (← seen.0) c.loop-event.invariant.0
 
-pub returns : goal.returns
-returns c =
-    let es = c.args.events.now in
-    record { items = c.loop-event.invariant.0 ∙ ap (λ l. deque_items c.args.queued.now ++ map (at_time c.args.time) (filter (of c.args.device) l)) (take_all c.loop-event.event-index es c.loop-event-test.false); capacity = c.loop-event.invariant.1 }
+pub returns-clause-len : goal.returns-clause-len
+returns-clause-len c =
+    let seen = YieldsList-end
+    (YieldsList-at c.into_iter-event-iterator.ensures.into_iter_gives
+    (YieldsList-from_filter _ (of c.args.device) (YieldsList-from_slice c.args.events.now cc) c.filter-event-items.ensures.closure (λ x r q k. search (rules, tests))))
+    c.loop-event.yielded _ c.loop-event.yielded_by _ _ c.in-None.is c.next.ensures.steps in
+    omega (arith, ap length seen.0)
