@@ -27,7 +27,7 @@ impl DeviceCapability {
         DeviceCapability::Text,
     ];
 
-    // The place of the capability in a set, a map and an interface list, from 0.
+    // The place of the capability in a set, a map and an interface list, from 0: a place in an array, so a usize and no From.
     pub fn index(self) -> usize
         ensures value { result ≡ index_of self }
         ensures below { result < 7 }
@@ -50,7 +50,8 @@ impl DeviceCapability {
         }
     }
 
-    // The capability whose interface has this name; none for any other name.
+    // The capability whose interface has this name; none for any other name. That the seven names are the cases of a match is a form fixed
+    // by a rule of the project.
     pub fn from_interface_name(name: &str) -> Option<DeviceCapability>
         ensures { MatchOption result ((c : DeviceCapability) → name.now ≢ interface_name c) (λ c. name.now ≡ interface_name c) }
     {
@@ -67,8 +68,8 @@ impl DeviceCapability {
     }
 }
 
-// The mask by which a seat's server knows each capability; 0 until it is set. It shares two indexings with a device's interface list, whose
-// entries have rules of their own, so a common type would be no plainer.
+// The mask by which a seat's server knows each capability; 0 until it is set. An array, as a device's interface list has one: fixed
+// memory, and a generic struct has no array of a type parameter that both could be.
 #[derive(Clone, Copy)]
 pub struct CapabilityMap {
     masks: [u64; 7],

@@ -1,4 +1,5 @@
-// The protocol's enums. Each case has the number that stands for it on the wire.
+// The protocol's enums. Each case has the number that stands for it on the wire. Each enum is a type of its own by the protocol, two of
+// the same cases too, and so has its own two conversions.
 ghost use Rattle.std.specs.Prelude.{◌≡◌};
 ghost use Rattle.ei.specs.Numbers.{button_state, device_type, disconnect_reason, key_state, keymap_type, CaseOf};
 

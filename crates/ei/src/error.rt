@@ -1,4 +1,4 @@
-ghost use Rattle.std.specs.Prelude.{◌≡◌};
+ghost use Rattle.std.specs.Prelude.{◌≡◌, if◌then◌else◌, true, Ok, Err, OnOk};
 ghost use Rattle.ei.specs.Refusals.{number_of};
 
 use std::fmt;
@@ -24,14 +24,23 @@ pub enum EventError {
 }
 
 impl EventError {
-    // The number of the refusal, from 1 to 15.
+    // The number of the refusal, from 1 to 15. A method, since the rules and the lines of output call it so.
     pub fn number(self) -> u8
         ensures { result ≡ number_of self }
     {
         self as u8
     }
+
+    // Refuses so where what is needed is not met.
+    pub fn unless(self, met: bool) -> Result<(), EventError>
+        ensures answer { result ≡ (if met then Ok tt else Err self) }
+        ensures ok { OnOk result (met ≡ true) }
+    {
+        met.then_some(()).ok_or(self)
+    }
 }
 
+// Written out: a derive would put a library under the crate that stands on none.
 impl fmt::Display for EventError {
     fn fmt<W: fmt::Write>(&self, f: &mut fmt::Formatter<W>) -> fmt::Result {
         let message = match self {

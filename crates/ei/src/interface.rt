@@ -14,19 +14,20 @@ pub trait Interface: Sized {
 
     ghost numbered: { Self → ℕ };
 
-    // The protocol's name of the interface.
-    const NAME: &'static str;
-
     // Whether its objects are those of a client.
     const CLIENT_SIDE: bool;
-
-    fn interface_name() -> &'static str
-        ensures { result.now ≡ interface_name kind };
 
     fn capability() -> DeviceCapability
         ensures { result ≡ kind };
 
-    // The object of this number.
+    // The protocol's name of the interface.
+    fn interface_name() -> &'static str
+        ensures { result.now ≡ interface_name kind }
+    {
+        Self::capability().interface_name()
+    }
+
+    // The object of this number. By methods, since the ghost `numbered` states both in one.
     fn from_number(number: u64) -> Self
         ensures { numbered result ≡ number };
 
@@ -34,15 +35,9 @@ pub trait Interface: Sized {
         ensures { result ≡ numbered self.now };
 }
 
-// A kind of interface, as a type.
+// A kind of interface, as a type. It has no objects of its own, so it is no `Interface`.
 pub trait InterfaceKind {
     ghost kind: { Capability };
-
-    // The protocol's name of the interface.
-    const NAME: &'static str;
-
-    fn interface_name() -> &'static str
-        ensures { result.now ≡ interface_name kind };
 
     fn capability() -> DeviceCapability
         ensures { result ≡ kind };
@@ -60,13 +55,7 @@ impl<K: InterfaceKind> Interface for InterfaceObject<K> {
 
     ghost numbered = { λ o. o.number };
 
-    const NAME: &'static str = K::NAME;
-
     const CLIENT_SIDE: bool = true;
-
-    fn interface_name() -> &'static str {
-        K::interface_name()
-    }
 
     fn capability() -> DeviceCapability {
         K::capability()

@@ -10,7 +10,7 @@ pub struct Object {
 }
 
 impl Object {
-    // The derived comparison, with a promise: the derive writes it and says nothing of it.
+    // The derived comparison, as a clause that callers can cite.
     pub fn same(&self, other: &Object) -> bool
         ensures { Decides result (self.now ≡ other.now) }
     {

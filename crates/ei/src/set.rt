@@ -12,7 +12,7 @@ pub struct CapabilitySet {
 }
 
 impl CapabilitySet {
-    // The set of a number of seven bits; a number with a higher bit makes none.
+    // The set of a number of seven bits; a number with a higher bit makes none. Named and answered as Rust's bit sets have it.
     pub fn from_bits(bits: u64) -> Option<CapabilitySet>
         ensures { MatchOption result (2 ^ 7 ≤ bits) (λ s. s.bits ≡ bits) }
     {

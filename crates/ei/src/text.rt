@@ -3,8 +3,8 @@ ghost use Rattle.std.specs.Prelude.{◌≡◌, ℕ, ◌≤◌, length, slice_ind
 
 pub mod bytes;
 
-// A text of at most 128 bytes, with zeros behind its end. It lies in its row or event, in fixed memory: no call allocates. It shares one
-// line with the regions of a device, the slice in use, so a common type would be no plainer.
+// A text of at most 128 bytes, with zeros behind its end. It lies in its row or event, in fixed memory: no call allocates. A
+// generic struct has no array of a type parameter that a text and a device's regions could both be.
 #[derive(Clone, Copy)]
 pub struct Text {
     bytes: [u8; 128],

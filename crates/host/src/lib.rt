@@ -1,7 +1,7 @@
 // What a converter asks of the program that runs it: the time, and a place for a note.
 #![tactic(auto)]
 
-ghost use Rattle.std.specs.Prelude.{◌≡◌, List, Some};
+ghost use Rattle.std.specs.Prelude.{◌≡◌, List, Some, ⊤};
 ghost use Rattle.host.specs.Leaving.{HostState, WaitsOn, Leaves};
 ghost use Rattle.host.specs.Spelling.{spelled};
 ghost use Rattle.host.specs.declared.Note.{Note};
@@ -49,14 +49,14 @@ pub trait Host {
     ghost state: { Self → HostState };
 
     // What a left note leaves as it was, besides the reading.
-    ghost stays: { Self → Self → Type 0 };
+    ghost stays: { Self → Self → Type 0 } = { λ _ _. ⊤ };
 
     // The reading. What the next one will be is open.
     fn now(&mut self) -> u64
         ensures value { result ≡ (state self.old).reading }
         ensures waits { WaitsOn (state self.old) (state self.new) };
 
-    // Leaves a note, and answers whether there was a place for it.
+    // Leaves a note, and answers whether there was a place for it: a yes or a no by a rule of the project.
     fn leave(&mut self, note: Note) -> bool
         ensures left { Leaves note result (state self.old) (state self.new) }
         ensures rest { stays self.old self.new };

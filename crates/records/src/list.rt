@@ -11,7 +11,8 @@ pub struct Entry {
 }
 
 // At most one object of each interface kind, by the kind's index.
-// Kept as an array: by the project's rule of fixed memory a row is a plain value that is copied, and holds no map.
+// Kept as an array: by the project's rule of fixed memory a row is a plain value that is copied, and holds no map; and a generic struct
+// has no array of a type parameter that a list and a seat's masks could both be.
 #[derive(Clone, Copy)]
 pub struct InterfaceList {
     entries: [Option<Entry>; 7],

@@ -19,6 +19,8 @@ impl<const N: usize> Table<DeviceRow, N> {
         row.map(|row| row.head.handle)
     }
 
+    // The two steps differ in their search, and share `step_found`.
+
     // The device that owns an object takes a step; false where nobody owns it.
     pub fn step_owner(&mut self, object: Object, step: DeviceStep) -> bool
         ensures answer { result ≡ any (owns_it object) self.old }

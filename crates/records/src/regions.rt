@@ -6,7 +6,8 @@ use ei::device::Region;
 mod shown;
 
 // At most eight regions, in the order of their arrival.
-// Kept as an array and a count: by the project's rule of fixed memory a row is a plain value that is copied, and holds no Vec.
+// Kept as an array and a count: by the project's rule of fixed memory a row is a plain value that is copied, and holds no Vec; and a
+// generic struct has no array of a type parameter that regions and a text could both be.
 #[derive(Clone, Copy)]
 pub struct Regions {
     items: [Region; 8],

@@ -42,7 +42,8 @@ impl Key {
     }
 }
 
-// What every record has: the number of its object, how it stands, and its handle, which is 0 until it is live.
+// What every record has: the number of its object, how it stands, and its handle, which is 0 until it is live. A standing that held the
+// handle would be no plainer: rows are sought by their standing alone, those of callbacks too, which have none.
 #[derive(Clone, Copy)]
 pub struct Head {
     pub number: u64,

@@ -9,8 +9,8 @@ use host::KeptHost;
 use script::{Line, parse};
 use showing::EventLine;
 use std::alloc::Global;
-use std::io;
 use std::io::{BufRead, BufReader};
+use std::{fmt, io};
 
 // What is run: the converter of the session, none before the first `start`, and the buffer for the texts of its lines.
 #[derive(Drop)]
@@ -26,20 +26,18 @@ fn print_answer(rt: &impl Print, answer: Result<(), EventError>) -> io::Result<(
     println!(rt; "{number}")
 }
 
-fn print_next(rt: &impl Print, converter: &mut EiEventConverter<KeptHost>) -> io::Result<()> {
-    let mut place = EiEvent::SeatAdded(SeatAdded { seat: 0 });
-    if converter.next_event(&mut place) {
-        println!(rt; "{}", EventLine(&place))
-    } else {
-        println!(rt; "none")
+// Prints what there is, or that there is none.
+fn print_or_none<T: fmt::Display + Drop>(rt: &impl Print, shown: Option<T>) -> io::Result<()> {
+    match shown {
+        Some(shown) => println!(rt; "{shown}"),
+        None => println!(rt; "none"),
     }
 }
 
-fn print_note(rt: &impl Print, converter: &mut EiEventConverter<KeptHost>) -> io::Result<()> {
-    match converter.host.take_note() {
-        Some(note) => println!(rt; "{note}"),
-        None => println!(rt; "none"),
-    }
+// The oldest queued event, if there is one.
+fn next(converter: &mut EiEventConverter<KeptHost>) -> Option<EiEvent> {
+    let mut place = EiEvent::SeatAdded(SeatAdded { seat: 0 });
+    converter.next_event(&mut place).then_some(place)
 }
 
 // One line of a running session.
@@ -54,8 +52,8 @@ fn play(
             converter.host.set_reading(micros);
             Ok(())
         }
-        Line::Take => print_note(rt, converter),
-        Line::Next => print_next(rt, converter),
+        Line::Take => print_or_none(rt, converter.host.take_note()),
+        Line::Next => print_or_none(rt, next(converter).as_ref().map(|event| EventLine(event))),
         Line::Callback { callback, ticket } => print_answer(
             rt,
             converter.add_callback_handler(callback, ticket),
@@ -85,44 +83,36 @@ impl Replay {
     }
 
     fn start(&mut self, serial: u32) -> anyhow::Result<()> {
-        let Ok(converter) = EiEventConverter::new(self.heap, KeptHost::new(self.heap)?, serial)
-        else {
-            return Err(anyhow!("no memory for the converter"));
-        };
+        let host = KeptHost::new(self.heap)?;
+        let converter = EiEventConverter::new(self.heap, host, serial).map_err(|_| anyhow!(
+            "no memory for the converter"
+        ))?;
         self.session = Some(converter);
         Ok(())
     }
 
-    // Takes one line, and says whether it could be read.
-    fn take(
-        &mut self,
-        rt: &(impl Print + Eprint),
-        number: u64,
-        text: &[u8],
-    ) -> anyhow::Result<bool> {
+    // Takes one line.
+    fn take(&mut self, rt: &(impl Print + Eprint), number: u64, text: &[u8]) -> anyhow::Result<()> {
         let line = match parse(text, &mut self.scratch) {
             Ok(line) => line,
-            Err(malformed) => {
-                eprintln!(rt; "line {number}: {malformed}")?;
-                return Ok(false);
-            }
+            Err(malformed) => return refused(rt, number, malformed),
         };
         if let Line::Start { serial } = line {
             self.end(rt)?;
-            self.start(serial)?;
-            return Ok(true);
+            return self.start(serial);
         }
         match &mut self.session {
-            Some(converter) => play(rt, converter, line)?,
-            None => {
-                if !matches!(line, Line::Skip) {
-                    eprintln!(rt; "line {number}: no session is started")?;
-                    return Ok(false);
-                }
-            }
+            Some(converter) => Ok(play(rt, converter, line)?),
+            None if matches!(line, Line::Skip) => Ok(()),
+            None => refused(rt, number, "no session is started"),
         }
-        Ok(true)
     }
+}
+
+// Says why a line is refused, and ends the program.
+fn refused(rt: &impl Eprint, number: u64, why: impl fmt::Display + Drop) -> anyhow::Result<()> {
+    eprintln!(rt; "line {number}: {why}")?;
+    Err(anyhow!("the session file is malformed"))
 }
 
 // A line without its line feed.
@@ -134,15 +124,13 @@ fn run(rt: &HostRuntime, heap: Global) -> anyhow::Result<()> {
     let mut replay = Replay::new(heap);
     let mut reader = BufReader::new(heap, rt.stdin())?;
     let mut line = Vec::new(heap);
-    // All lines are read into one buffer, where an iterator of lines would allocate each.
+    // Lines are bytes and no text, and are read into one buffer; the library's iterator of lines makes a String of each.
     for number in 1..u64::MAX {
         line.clear();
         if reader.read_until(b'\n', &mut line)? == 0 {
             break;
         }
-        if !replay.take(rt, number, without_feed(&line))? {
-            return Err(anyhow!("the session file is malformed"));
-        }
+        replay.take(rt, number, without_feed(&line))?;
     }
     replay.end(rt)?;
     Ok(())

@@ -1,5 +1,5 @@
 -- What is read from the words of a line: what was left of it, the answer, and what is left then.
-use Rattle.std.specs.Prelude.{◌≡◌, ℕ, ◌^◌, ◌≤◌, List, ℤ, Float, Ok, Err, Option, Result, IfOk, IfSome, MatchResult}
+use Rattle.std.specs.Prelude.{◌≡◌, ℕ, ◌^◌, ◌≤◌, List, ℤ, Float, Ok, Err, Option, Result, ◌≢◌, MatchOption, MatchResult}
 use Rattle.ei.specs.Capabilities.{interface_name}
 use Rattle.ei.specs.declared.capability.DeviceCapability.{DeviceCapability}
 use Rattle.ei.specs.declared.enums.NoSuchCase.{NoSuchCase}
@@ -29,13 +29,21 @@ ReadsInteger l r m = ReadsWord (λ w q. q ≡ integer_read w) l r m
 abbrev pub ReadsFloats : Option (List ℕ) → Result Float Malformed → Option (List ℕ) → Type 0
 ReadsFloats l r m = ReadsWord ReadsFloat l r m
 
--- a case of an enum, by its number
-abbrev pub ReadsCase : {N : Type 0} → (ℕ → Result N NoSuchCase → Type 0) → Option (List ℕ) → Result (Case N) Malformed → Option (List ℕ) → Type 0
-ReadsCase gives l r m = ReadsWord (λ w q. IfOk q (λ c. (n : ℕ) × (number_read 32 w ≡ Ok n) × gives n (Ok c.0))) l r m
+-- a case of an enum, by its number; a number that no case has is refused
+abbrev pub ReadsNumbered : {N : Type 0} → (ℕ → Result N NoSuchCase → Type 0) → List ℕ → Result (Case N) Malformed → Type 0
+ReadsNumbered gives w (Ok c) = (n : ℕ) × (number_read 32 w ≡ Ok n) × gives n (Ok c.0)
+ReadsNumbered gives w (Err e) = MatchResult (number_read 32 w) (λ n. (e ≡ NotInTable) × (d : NoSuchCase) × gives n (Err d)) (λ d. e ≡ d)
 
--- a capability, by the name of its interface
+abbrev pub ReadsCase : {N : Type 0} → (ℕ → Result N NoSuchCase → Type 0) → Option (List ℕ) → Result (Case N) Malformed → Option (List ℕ) → Type 0
+ReadsCase gives l r m = ReadsWord (ReadsNumbered gives) l r m
+
+-- a capability, by the name of its interface; none for a name that no interface has
+abbrev pub ReadsNamed : List ℕ → Result (Option DeviceCapability) Malformed → Type 0
+ReadsNamed w (Ok o) = MatchOption o ((c : DeviceCapability) → w ≢ interface_name c) (λ c. w ≡ interface_name c)
+ReadsNamed w (Err e) = ⊥
+
 abbrev pub ReadsInterface : Option (List ℕ) → Result (Option DeviceCapability) Malformed → Option (List ℕ) → Type 0
-ReadsInterface l r m = ReadsWord (λ w q. IfOk q (λ o. IfSome o (λ c. w ≡ interface_name c))) l r m
+ReadsInterface l r m = ReadsWord ReadsNamed l r m
 
 -- a set of capabilities is a number of seven bits
 abbrev pub ReadsSet : List ℕ → Result CapabilitySet Malformed → Type 0

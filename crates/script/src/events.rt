@@ -1,10 +1,11 @@
-// The lines that are low-level events, by interface.
+// The lines that are low-level events, by interface. Each interface's events are an enum of its own by the protocol, and the function that
+// reads them says all of them, `destroyed` too. A name and what is left of the line come together and part at once: the one is matched and
+// the other is read.
 ghost use Rattle.std.specs.Prelude.{◌≡◌, IfOk};
 ghost use Rattle.script.specs.Events.{object_from, ButtonLine, CallbackLine, ConnectionLine, DeviceLine, EventLine, KeyboardLine, PointerAbsoluteLine, PointerLine, ScrollLine, SeatLine, TextLine, TouchscreenLine};
-ghost use Rattle.wording.specs.Words.{left};
 
 use crate::fields::Case;
-use crate::rest::Rest;
+use crate::rest::LineRest;
 use ei::capability::DeviceCapability;
 use ei::object::Object;
 use ei::proto::{
@@ -17,9 +18,9 @@ use wording::Malformed;
 pub fn event<'a>(
     interface: &str,
     name: &str,
-    mut rest: Rest<'_, 'a>,
+    mut rest: LineRest<'_, 'a>,
 ) -> Result<Event<'a>, Malformed>
-    ensures { IfOk result (EventLine interface.now name.now (left rest.entry.words)) }
+    ensures { IfOk result (EventLine interface.now name.now rest.entry.words) }
 {
     if interface == "connection" {
         return Ok(Event::Connection(connection_event(name, rest)?));
@@ -44,7 +45,7 @@ pub fn event<'a>(
 }
 
 // Why a name is refused on an interface that has no such event. The serial of a `destroyed` is read first, whatever the interface.
-fn unknown(name: &str, rest: &mut Rest<'_, '_>) -> Malformed {
+fn unknown(name: &str, rest: &mut LineRest<'_, '_>) -> Malformed {
     if name == "destroyed" {
         if let Err(malformed) = rest.next::<u32>() {
             return malformed;
@@ -55,9 +56,9 @@ fn unknown(name: &str, rest: &mut Rest<'_, '_>) -> Malformed {
 
 fn connection_event<'a>(
     name: &str,
-    mut rest: Rest<'_, 'a>,
+    mut rest: LineRest<'_, 'a>,
 ) -> Result<ConnectionEvent<'a>, Malformed>
-    ensures { IfOk result (ConnectionLine name.now (left rest.entry.words)) }
+    ensures { IfOk result (ConnectionLine name.now rest.entry.words) }
 {
     Ok(match name {
         "seat" => ConnectionEvent::Seat { seat: rest.last()? },
@@ -81,8 +82,8 @@ fn connection_event<'a>(
     })
 }
 
-fn callback_event(name: &str, rest: &mut Rest<'_, '_>) -> Result<CallbackEvent, Malformed>
-    ensures { IfOk result (CallbackLine name.now (left rest.old.words)) }
+fn callback_event(name: &str, rest: &mut LineRest<'_, '_>) -> Result<CallbackEvent, Malformed>
+    ensures { IfOk result (CallbackLine name.now rest.old.words) }
 {
     match name {
         "done" => Ok(CallbackEvent::Done {
@@ -92,8 +93,8 @@ fn callback_event(name: &str, rest: &mut Rest<'_, '_>) -> Result<CallbackEvent, 
     }
 }
 
-fn seat_event<'a>(name: &str, mut rest: Rest<'_, 'a>) -> Result<SeatEvent<'a>, Malformed>
-    ensures { IfOk result (SeatLine name.now (left rest.entry.words)) }
+fn seat_event<'a>(name: &str, mut rest: LineRest<'_, 'a>) -> Result<SeatEvent<'a>, Malformed>
+    ensures { IfOk result (SeatLine name.now rest.entry.words) }
 {
     Ok(match name {
         "name" => SeatEvent::Name { name: rest.text()? },
@@ -116,8 +117,8 @@ fn seat_event<'a>(name: &str, mut rest: Rest<'_, 'a>) -> Result<SeatEvent<'a>, M
 }
 
 // The events of a device, those that describe it first.
-fn device_event<'a>(name: &str, mut rest: Rest<'_, 'a>) -> Result<DeviceEvent<'a>, Malformed>
-    ensures { IfOk result (DeviceLine name.now (left rest.entry.words)) }
+fn device_event<'a>(name: &str, mut rest: LineRest<'_, 'a>) -> Result<DeviceEvent<'a>, Malformed>
+    ensures { IfOk result (DeviceLine name.now rest.entry.words) }
 {
     Ok(match name {
         "name" => DeviceEvent::Name { name: rest.text()? },
@@ -164,8 +165,11 @@ fn object_of(kind: Option<DeviceCapability>, number: u64) -> Option<Object>
     kind.map(|kind| Object { kind, number })
 }
 
-fn device_state_event<'a>(name: &str, rest: &mut Rest<'_, '_>) -> Result<DeviceEvent<'a>, Malformed>
-    ensures { IfOk result (DeviceLine name.now (left rest.old.words)) }
+fn device_state_event<'a>(
+    name: &str,
+    rest: &mut LineRest<'_, '_>,
+) -> Result<DeviceEvent<'a>, Malformed>
+    ensures { IfOk result (DeviceLine name.now rest.old.words) }
 {
     Ok(match name {
         "resumed" => DeviceEvent::Resumed {
@@ -192,8 +196,8 @@ fn device_state_event<'a>(name: &str, rest: &mut Rest<'_, '_>) -> Result<DeviceE
     })
 }
 
-fn keyboard_event(name: &str, rest: &mut Rest<'_, '_>) -> Result<KeyboardEvent, Malformed>
-    ensures { IfOk result (KeyboardLine name.now (left rest.old.words)) }
+fn keyboard_event(name: &str, rest: &mut LineRest<'_, '_>) -> Result<KeyboardEvent, Malformed>
+    ensures { IfOk result (KeyboardLine name.now rest.old.words) }
 {
     Ok(match name {
         "keymap" => {
@@ -226,8 +230,8 @@ fn keyboard_event(name: &str, rest: &mut Rest<'_, '_>) -> Result<KeyboardEvent, 
     })
 }
 
-fn pointer_event(name: &str, rest: &mut Rest<'_, '_>) -> Result<PointerEvent, Malformed>
-    ensures { IfOk result (PointerLine name.now (left rest.old.words)) }
+fn pointer_event(name: &str, rest: &mut LineRest<'_, '_>) -> Result<PointerEvent, Malformed>
+    ensures { IfOk result (PointerLine name.now rest.old.words) }
 {
     Ok(match name {
         "motion_relative" => {
@@ -243,9 +247,9 @@ fn pointer_event(name: &str, rest: &mut Rest<'_, '_>) -> Result<PointerEvent, Ma
 
 fn pointer_absolute_event(
     name: &str,
-    rest: &mut Rest<'_, '_>,
+    rest: &mut LineRest<'_, '_>,
 ) -> Result<PointerAbsoluteEvent, Malformed>
-    ensures { IfOk result (PointerAbsoluteLine name.now (left rest.old.words)) }
+    ensures { IfOk result (PointerAbsoluteLine name.now rest.old.words) }
 {
     Ok(match name {
         "motion_absolute" => {
@@ -259,8 +263,8 @@ fn pointer_absolute_event(
     })
 }
 
-fn scroll_event(name: &str, rest: &mut Rest<'_, '_>) -> Result<ScrollEvent, Malformed>
-    ensures { IfOk result (ScrollLine name.now (left rest.old.words)) }
+fn scroll_event(name: &str, rest: &mut LineRest<'_, '_>) -> Result<ScrollEvent, Malformed>
+    ensures { IfOk result (ScrollLine name.now rest.old.words) }
 {
     Ok(match name {
         "scroll" => {
@@ -282,8 +286,8 @@ fn scroll_event(name: &str, rest: &mut Rest<'_, '_>) -> Result<ScrollEvent, Malf
     })
 }
 
-fn button_event(name: &str, rest: &mut Rest<'_, '_>) -> Result<ButtonEvent, Malformed>
-    ensures { IfOk result (ButtonLine name.now (left rest.old.words)) }
+fn button_event(name: &str, rest: &mut LineRest<'_, '_>) -> Result<ButtonEvent, Malformed>
+    ensures { IfOk result (ButtonLine name.now rest.old.words) }
 {
     Ok(match name {
         "button" => {
@@ -297,8 +301,8 @@ fn button_event(name: &str, rest: &mut Rest<'_, '_>) -> Result<ButtonEvent, Malf
     })
 }
 
-fn touchscreen_event(name: &str, rest: &mut Rest<'_, '_>) -> Result<TouchscreenEvent, Malformed>
-    ensures { IfOk result (TouchscreenLine name.now (left rest.old.words)) }
+fn touchscreen_event(name: &str, rest: &mut LineRest<'_, '_>) -> Result<TouchscreenEvent, Malformed>
+    ensures { IfOk result (TouchscreenLine name.now rest.old.words) }
 {
     Ok(match name {
         "down" => {
@@ -322,8 +326,8 @@ fn touchscreen_event(name: &str, rest: &mut Rest<'_, '_>) -> Result<TouchscreenE
     })
 }
 
-fn text_event<'a>(name: &str, mut rest: Rest<'_, 'a>) -> Result<TextEvent<'a>, Malformed>
-    ensures { IfOk result (TextLine name.now (left rest.entry.words)) }
+fn text_event<'a>(name: &str, mut rest: LineRest<'_, 'a>) -> Result<TextEvent<'a>, Malformed>
+    ensures { IfOk result (TextLine name.now rest.entry.words) }
 {
     Ok(match name {
         "keysym" => {

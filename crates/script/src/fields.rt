@@ -1,8 +1,7 @@
 // What one word or more of a line can stand for.
-ghost use Rattle.std.specs.Prelude.{ℕ, List, Option, Result, IfOk, ⊤};
+ghost use Rattle.std.specs.Prelude.{ℕ, List, Option, Result, IfOk};
 ghost use Rattle.script.specs.Fields.{ReadsCase, ReadsFloats, ReadsInteger, ReadsInterface, ReadsNumber, ReadsPair, ReadsSet, ReadsTriple, ReadsWord};
 ghost use Rattle.wording.specs.declared.malformed.Malformed.{Malformed};
-ghost use Rattle.wording.specs.Words.{left};
 
 use ei::capability::DeviceCapability;
 use ei::enums::NoSuchCase;
@@ -13,10 +12,10 @@ use wording::{Malformed, Words, decimal, float, integer};
 // A value that is read from the words of a line.
 pub trait Field: Sized {
     // Holds of what is left of a line, each answer that `read` may give, and what is left then.
-    ghost reads: { Option (List ℕ) → Result Self Malformed → Option (List ℕ) → Type 0 } = { λ _ _ _. ⊤ };
+    ghost reads: { Option (List ℕ) → Result Self Malformed → Option (List ℕ) → Type 0 };
 
     fn read(words: &mut Words) -> Result<Self, Malformed>
-        ensures { reads (left words.old) result (left words.new) };
+        ensures { reads words.old result words.new };
 }
 
 impl Field for u64 {
@@ -78,8 +77,12 @@ impl Field for Option<DeviceCapability> {
     ghost reads = { ReadsInterface };
 
     fn read(words: &mut Words) -> Result<Option<DeviceCapability>, Malformed> {
-        let name = from_utf8(words.next_word()?).ok();
-        Ok(name.and_then(|name| DeviceCapability::from_interface_name(name)))
+        let word = words.next_word()?;
+        // two returns, since that what is no text names no interface is proved at the first
+        let Ok(name) = from_utf8(word) else {
+            return Ok(None);
+        };
+        Ok(DeviceCapability::from_interface_name(name))
     }
 }
 

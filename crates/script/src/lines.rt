@@ -1,10 +1,9 @@
 // The lines of a session.
 ghost use Rattle.std.specs.Prelude.{IfOk};
 ghost use Rattle.script.specs.Lines.{Asks, LineAsks};
-ghost use Rattle.wording.specs.Words.{left};
 
 use crate::events::event;
-use crate::rest::Rest;
+use crate::rest::LineRest;
 use ei::proto::Event;
 use ei::set::CapabilitySet;
 use std::str::from_utf8;
@@ -32,7 +31,7 @@ pub fn parse<'a>(line: &[u8], scratch: &'a mut Vec<u8>) -> Result<Line<'a>, Malf
     if let [] | [b'#', ..] = line {
         return Ok(Line::Skip);
     }
-    let mut rest = Rest::new(line, scratch);
+    let mut rest = LineRest::new(line, scratch);
     let word = from_utf8(rest.word()?).map_err(|_| Malformed::UnknownWord)?;
     match word.split_once('.') {
         Some((interface, name)) => Ok(Line::Event(event(interface, name, rest)?)),
@@ -41,8 +40,8 @@ pub fn parse<'a>(line: &[u8], scratch: &'a mut Vec<u8>) -> Result<Line<'a>, Malf
 }
 
 // The lines whose first word has no dot.
-fn call_line<'a>(call: &str, rest: &mut Rest<'_, '_>) -> Result<Line<'a>, Malformed>
-    ensures { IfOk result (Asks call.now (left rest.old.words)) }
+fn call_line<'a>(call: &str, rest: &mut LineRest<'_, '_>) -> Result<Line<'a>, Malformed>
+    ensures { IfOk result (Asks call.now rest.old.words) }
 {
     Ok(match call {
         "start" => Line::Start {

@@ -1,22 +1,22 @@
 // What is left of a line that is being read.
 ghost use Rattle.std.specs.Prelude.{◌≡◌, Some, None, Ok, IfOk, MatchOption};
-ghost use Rattle.wording.specs.Words.{after_word, at_end, left, next_word, text_in};
+ghost use Rattle.wording.specs.Words.{after_word, at_end, next_word, text_in};
 
 use crate::fields::Field;
 use wording::{Malformed, Words};
 
 // The words that are left of a line, and the buffer for the text that may end it.
 #[derive(Drop)]
-pub struct Rest<'l, 'a> {
+pub struct LineRest<'l, 'a> {
     words: Words<'l>,
     scratch: &'a mut Vec<u8>,
 }
 
-impl<'l, 'a> Rest<'l, 'a> {
-    pub fn new(line: &'l [u8], scratch: &'a mut Vec<u8>) -> Rest<'l, 'a>
-        ensures { left result.words ≡ Some line.now }
+impl<'l, 'a> LineRest<'l, 'a> {
+    pub fn new(line: &'l [u8], scratch: &'a mut Vec<u8>) -> LineRest<'l, 'a>
+        ensures { result.words ≡ Some line.now }
     {
-        Rest {
+        LineRest {
             words: Words::new(line),
             scratch,
         }
@@ -24,22 +24,22 @@ impl<'l, 'a> Rest<'l, 'a> {
 
     // The next word.
     pub fn word(&mut self) -> Result<&'l [u8], Malformed>
-        ensures word { IfOk result (λ w. next_word (left self.old.words) ≡ Ok w.now) }
-        ensures rest { left self.new.words ≡ after_word (left self.old.words) }
+        ensures word { IfOk result (λ w. next_word self.old.words ≡ Ok w.now) }
+        ensures rest { self.new.words ≡ after_word self.old.words }
     {
         self.words.next_word()
     }
 
     // A value of the type that the caller wants, from as many words as it takes.
     pub fn next<F: Field>(&mut self) -> Result<F, Malformed>
-        ensures { F.reads (left self.old.words) result (left self.new.words) }
+        ensures { F.reads self.old.words result self.new.words }
     {
         F::read(&mut self.words)
     }
 
     // The last value, behind which the line ends.
     pub fn last<F: Field + Drop>(&mut self) -> Result<F, Malformed>
-        ensures { IfOk result (λ x. F.reads (left self.old.words) (Ok x) None) }
+        ensures { IfOk result (λ x. F.reads self.old.words (Ok x) None) }
     {
         let value = self.next()?;
         self.end()?;
@@ -48,24 +48,24 @@ impl<'l, 'a> Rest<'l, 'a> {
 
     // Refuses a line with a word left.
     pub fn end(&self) -> Result<(), Malformed>
-        ensures { result ≡ at_end (left self.now.words) }
+        ensures { result ≡ at_end self.now.words }
     {
         self.words.end()
     }
 
     // The text that is the rest of the line.
     pub fn text(self) -> Result<&'a [u8], Malformed>
-        ensures { IfOk result (λ t. text_in (left self.entry.words) ≡ Some t.now) }
+        ensures { IfOk result (λ t. text_in self.entry.words ≡ Some t.now) }
     {
-        let Rest { mut words, scratch } = self;
+        let LineRest { mut words, scratch } = self;
         words.text(scratch)
     }
 
     // The same of a line that may have no text.
     pub fn optional_text(self) -> Result<Option<&'a [u8]>, Malformed>
-        ensures { IfOk result (λ o. MatchOption o (left self.entry.words ≡ None) (λ t. text_in (left self.entry.words) ≡ Some t.now)) }
+        ensures { IfOk result (λ o. MatchOption o (self.entry.words ≡ None) (λ t. text_in self.entry.words ≡ Some t.now)) }
     {
-        let Rest { mut words, scratch } = self;
+        let LineRest { mut words, scratch } = self;
         if words.is_end() {
             return Ok(None);
         }

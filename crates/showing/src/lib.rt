@@ -11,7 +11,7 @@ use std::fmt;
 use std::num::f32_to_bits_with_nan;
 use wording::Quoted;
 
-// A float, by its bits: a type of its own, since seven kinds of lines would repeat the format.
+// A float, by its bits: a type of its own, since six kinds of lines would repeat the format.
 #[derive(Clone, Copy)]
 struct Bits(f32);
 

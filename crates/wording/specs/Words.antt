@@ -1,14 +1,8 @@
 -- The words of a line, with one space between.
 use Rattle.std.specs.Prelude.{ℕ, cond, List, [], ◌∷◌, Some, None, Ok, Err, Option, Result, ◌==◌}
-use Rattle.std.specs.Option.{option_map}
 use Rattle.wording.specs.declared.malformed.Malformed.{Malformed}
 use Rattle.wording.specs.declared.malformed.Malformed.TheVariants.{ExtraWord, MissingWord}
-use Rattle.wording.specs.declared.words.Words.{Words}
 use Rattle.wording.specs.Quoting.{unquoted}
-
--- what is left of a line; none behind its last word
-abbrev pub left : Words → Option (List ℕ)
-left words = option_map (λ x. x.now) words.rest
 
 -- the bytes before the first s
 abbrev pub before : ℕ → List ℕ → List ℕ

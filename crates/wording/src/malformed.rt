@@ -18,6 +18,7 @@ pub enum Malformed {
     NoMemory,
 }
 
+// Written out: a derive would put a library under the crate that stands on none.
 impl fmt::Display for Malformed {
     fn fmt<W: fmt::Write>(&self, f: &mut fmt::Formatter<W>) -> fmt::Result {
         let message = match self {

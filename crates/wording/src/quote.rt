@@ -7,14 +7,14 @@ use crate::digits::hex_digit;
 use crate::malformed::Malformed;
 use std::fmt;
 
-// The byte that two hex digits write.
+// The byte that two hex digits write. No `from_str_radix`, which takes a text: these are two bytes of a line.
 fn hex_byte(high: u8, low: u8) -> Option<u8>
     ensures { result ≡ hex_pair high low }
 {
     Some((hex_digit(high)? * 16 + hex_digit(low)?) as u8)
 }
 
-// Where the reading of a text stands, behind its opening quote.
+// Where the reading of a text stands, behind its opening quote: the reader's own state, and no choice of its caller's.
 #[derive(Clone, Copy, PartialEq, Eq)]
 pub enum Place {
     // Between two bytes of the text.
@@ -86,9 +86,9 @@ pub fn unquote(text: &[u8], out: &mut Vec<u8>) -> Result<(), Malformed>
     ensures reads { ReadsAs (unquoted text.now) result out.new.items }
     ensures back { ReadBack }
 {
-    let [b'"', rest @ ..] = text else {
-        return Err(Malformed::BadText);
-    };
+    let rest = text
+        .strip_prefix(b"\"".as_slice())
+        .ok_or(Malformed::BadText)?;
     unquote_rest(rest, out)
 }
 

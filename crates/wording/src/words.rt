@@ -1,12 +1,14 @@
 // The words of a line, one after the other.
 ghost use Rattle.std.specs.Prelude.{◌≡◌, not, is_some, IfOk, Some, None, Ok, Err, MatchResult};
 ghost use Rattle.std.specs.Option.{option_map};
-ghost use Rattle.wording.specs.Words.{after_word, at_end, before, behind, left, next_word, text_in};
+ghost use Rattle.wording.specs.Words.{after_word, at_end, before, behind, next_word, text_in};
 
 use crate::malformed::Malformed;
 use crate::quote::unquote;
+use std::marker::Model;
 
-// What stands before the first of these bytes, and what stands behind it, if there is one.
+// What stands before the first of these bytes, and what stands behind it, if there is one. A match, since its two arms give
+// different pairs.
 fn split(bytes: &[u8], separator: u8) -> (&[u8], Option<&[u8]>)
     ensures front { result.0.now ≡ before separator bytes.now }
     ensures back { option_map (λ x. x.now) result.1 ≡ behind separator bytes.now }
@@ -17,29 +19,38 @@ fn split(bytes: &[u8], separator: u8) -> (&[u8], Option<&[u8]>)
     }
 }
 
-// What is left of a line; none behind its last word.
+// The words of a line. Seen as what is left of it; none behind its last word.
 #[derive(Drop)]
 pub struct Words<'a> {
     rest: Option<&'a [u8]>,
 }
 
+impl<'a> Model for Words<'a> {
+    ghost use Rattle.std.specs.Prelude.{ℕ, List, Option};
+    ghost use Rattle.std.specs.Option.{option_map};
+
+    ghost Value = { Option (List ℕ) };
+
+    ghost view = { λ w. option_map (λ x. x.now) w.rest };
+}
+
 impl<'a> Words<'a> {
     pub fn new(line: &'a [u8]) -> Words<'a>
-        ensures { left result ≡ Some line.now }
+        ensures { result ≡ Some line.now }
     {
         Words { rest: Some(line) }
     }
 
     // Whether no word is left.
     pub fn is_end(&self) -> bool
-        ensures { result ≡ not (is_some self.now.rest) }
+        ensures { result ≡ not (is_some self.now) }
     {
         self.rest.is_none()
     }
 
     // Refuses a line with a word left.
     pub fn end(&self) -> Result<(), Malformed>
-        ensures { result ≡ at_end (left self.now) }
+        ensures { result ≡ at_end self.now }
     {
         if self.is_end() {
             Ok(())
@@ -50,8 +61,8 @@ impl<'a> Words<'a> {
 
     // The next word. Two spaces have none between them.
     pub fn next_word(&mut self) -> Result<&'a [u8], Malformed>
-        ensures word { MatchResult result (λ w. next_word (left self.old) ≡ Ok w.now) (λ e. next_word (left self.old) ≡ Err e) }
-        ensures rest { left self.new ≡ after_word (left self.old) }
+        ensures word { MatchResult result (λ w. next_word self.old ≡ Ok w.now) (λ e. next_word self.old ≡ Err e) }
+        ensures rest { self.new ≡ after_word self.old }
     {
         let rest = self.rest.ok_or(Malformed::MissingWord)?;
         let (word, behind) = split(rest, b' ');
@@ -64,8 +75,8 @@ impl<'a> Words<'a> {
 
     // The text that is the rest of the line, in the place of what the scratch buffer holds.
     pub fn text<'t>(&mut self, scratch: &'t mut Vec<u8>) -> Result<&'t [u8], Malformed>
-        ensures text { IfOk result (λ t. text_in (left self.old) ≡ Some t.now) }
-        ensures rest { self.new.rest ≡ None }
+        ensures text { IfOk result (λ t. text_in self.old ≡ Some t.now) }
+        ensures rest { self.new ≡ None }
     {
         let rest = self.rest.take().ok_or(Malformed::MissingWord)?;
         unquote(rest, scratch)?;

@@ -11,7 +11,6 @@ ghost use Rattle.tables.specs.Told.{told};
 ghost use Rattle.converter.specs.Contract.{model, view, Does, Continues};
 
 use super::EiEventConverter;
-use super::finish::taken;
 use ei::error::EventError;
 use ei::event::EiEvent;
 use ei::proto::Event;
@@ -27,6 +26,7 @@ impl<H: Host> EiEventConverter<H> {
         ensures outcome { MatchResult result (λ c. (model c ≡ fresh serial) × (c.host ≡ host)) (λ back. back ≡ host) }
         ensures law { IfOk result (λ c. Run [] (model c)) }
     {
+        // no `?`: the host goes into the converter, or comes back
         let Ok(tables) = Tables::new(heap, serial) else {
             return Err(host);
         };
@@ -42,7 +42,8 @@ impl<H: Host> EiEventConverter<H> {
         self.finish(rest)
     }
 
-    // Puts the oldest queued event into its place, and answers whether there was one. Otherwise the place is as it was.
+    // Puts the oldest queued event into its place, and answers whether there was one. Otherwise the place is as it was. That the caller's
+    // place is filled is this call's form by a rule of the project.
     pub fn next_event(&mut self, place: &mut EiEvent) -> bool
         ensures answer { result ≡ is_some (given (model self.old).store) }
         ensures place { place.new ≡ unwrap_or (given (model self.old).store) place.old }
@@ -73,8 +74,10 @@ impl<H: Host> EiEventConverter<H> {
         let row = self.seat_row(seat)?;
         let number = row.head.number;
         let mask = row.masks.mask_of(wanted);
-        taken(self.host.bind(number, mask))
+        EventError::HostFull.unless(self.host.bind(number, mask))
     }
+
+    // The two retire calls have a call of the rules and a table each, and no more; what they share is in the tables.
 
     // Frees the record of a seat that is gone from the server.
     pub fn retire_seat(&mut self, seat: u32) -> Result<(), EventError>

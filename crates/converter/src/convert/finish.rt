@@ -1,6 +1,5 @@
 // How a call that the tables took is finished with the host.
-ghost use Rattle.std.specs.Prelude.{◌≡◌, if◌then◌else◌, Ok, Err};
-ghost use Rattle.ei.specs.declared.error.EventError.TheVariants as refusals;
+ghost use Rattle.std.specs.Prelude.{◌≡◌, if◌then◌else◌, Ok};
 ghost use Rattle.store.specs.Moves.{has_pending};
 ghost use Rattle.tables.specs.Model.{time_asked, nothing_asked};
 ghost use Rattle.tables.specs.Rests.{finish};
@@ -13,13 +12,6 @@ use ei::event::EiEvent;
 use host::Host;
 use tables::rest::Rest;
 
-// What is answered after a host was asked to take a note.
-pub(super) fn taken(yes: bool) -> Result<(), EventError>
-    ensures { result ≡ (if yes then Ok tt else Err refusals.HostFull) }
-{
-    yes.then_some(()).ok_or(EventError::HostFull)
-}
-
 impl<H: Host> EiEventConverter<H> {
     // Does what is left of a call.
     pub(super) fn finish(&mut self, rest: Rest) -> Result<(), EventError>
@@ -31,13 +23,13 @@ impl<H: Host> EiEventConverter<H> {
                 self.queue_untimed(device, event);
                 Ok(())
             }
-            Rest::Pong { ping } => taken(self.host.pong(ping, 0)),
+            Rest::Pong { ping } => EventError::HostFull.unless(self.host.pong(ping, 0)),
             Rest::Run {
                 callback,
                 ticket,
                 data,
             } => {
-                taken(self.host.run(ticket, data))?;
+                EventError::HostFull.unless(self.host.run(ticket, data))?;
                 self.tables.forget_callback(callback);
                 Ok(())
             }

@@ -10,12 +10,6 @@ pub struct Pointer;
 impl InterfaceKind for Pointer {
     ghost kind = { capabilities.Pointer };
 
-    const NAME: &'static str = "ei_pointer";
-
-    fn interface_name() -> &'static str {
-        Self::NAME
-    }
-
     fn capability() -> DeviceCapability {
         DeviceCapability::Pointer
     }
@@ -26,12 +20,6 @@ pub struct PointerAbsolute;
 
 impl InterfaceKind for PointerAbsolute {
     ghost kind = { capabilities.PointerAbsolute };
-
-    const NAME: &'static str = "ei_pointer_absolute";
-
-    fn interface_name() -> &'static str {
-        Self::NAME
-    }
 
     fn capability() -> DeviceCapability {
         DeviceCapability::PointerAbsolute
@@ -44,12 +32,6 @@ pub struct Keyboard;
 impl InterfaceKind for Keyboard {
     ghost kind = { capabilities.Keyboard };
 
-    const NAME: &'static str = "ei_keyboard";
-
-    fn interface_name() -> &'static str {
-        Self::NAME
-    }
-
     fn capability() -> DeviceCapability {
         DeviceCapability::Keyboard
     }
@@ -60,12 +42,6 @@ pub struct Touchscreen;
 
 impl InterfaceKind for Touchscreen {
     ghost kind = { capabilities.Touch };
-
-    const NAME: &'static str = "ei_touchscreen";
-
-    fn interface_name() -> &'static str {
-        Self::NAME
-    }
 
     fn capability() -> DeviceCapability {
         DeviceCapability::Touch
@@ -78,12 +54,6 @@ pub struct Scroll;
 impl InterfaceKind for Scroll {
     ghost kind = { capabilities.Scroll };
 
-    const NAME: &'static str = "ei_scroll";
-
-    fn interface_name() -> &'static str {
-        Self::NAME
-    }
-
     fn capability() -> DeviceCapability {
         DeviceCapability::Scroll
     }
@@ -95,12 +65,6 @@ pub struct Button;
 impl InterfaceKind for Button {
     ghost kind = { capabilities.Button };
 
-    const NAME: &'static str = "ei_button";
-
-    fn interface_name() -> &'static str {
-        Self::NAME
-    }
-
     fn capability() -> DeviceCapability {
         DeviceCapability::Button
     }
@@ -111,12 +75,6 @@ pub struct Text;
 
 impl InterfaceKind for Text {
     ghost kind = { capabilities.Text };
-
-    const NAME: &'static str = "ei_text";
-
-    fn interface_name() -> &'static str {
-        Self::NAME
-    }
 
     fn capability() -> DeviceCapability {
         DeviceCapability::Text

@@ -4,7 +4,7 @@ ghost use Rattle.ei.specs.Texts.{text_bytes, text_of, padded, ReadAsMade, MadeAs
 use super::Text;
 
 impl Text {
-    // The text of these bytes; none where there are over 128.
+    // The text of these bytes; none where there are over 128. Named and answered as Rust's types of bytes have it.
     pub fn from_bytes(bytes: &[u8]) -> Option<Text>
         ensures { result ≡ (if nat_le (length bytes.now) 128 then Some (text_of bytes.now) else None) }
     {

@@ -22,12 +22,11 @@ impl<C: Clock> NotesHost<C> {
     }
 
     // Takes the oldest waiting note, and gives its place back.
-    // `remove(0)` costs what `pop_front` does, and promises that the room stays.
     pub fn take_note(&mut self) -> Option<Note>
         ensures taken { Takes result (shown C.to_come self.old) (shown C.to_come self.new) }
         ensures clock { self.new.clock ≡ self.old.clock }
     {
-        self.waiting.remove(0)
+        self.waiting.pop_front()
     }
 }
 

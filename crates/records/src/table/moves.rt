@@ -41,7 +41,8 @@ impl<R: Row + Copy, const N: usize> Table<R, N> {
     }
 
     pub fn rows(&self) -> &[R]
-        ensures { result.now ≡ self.now }
+        ensures rows { result.now ≡ self.now }
+        ensures few { length self.now ≤ N }
     {
         self.rows.as_slice()
     }
@@ -125,7 +126,7 @@ impl<R: Record + Copy, const N: usize> Table<R, N> {
         let _ = self.step_found(place, step);
     }
 
-    // The row at a place that was found takes a step; false where none was found.
+    // The row at a place that was found takes a step; false where none was found, which is an answer and no refusal.
     pub(crate) fn step_found(&mut self, place: Option<usize>, step: R::Step) -> bool
         ensures answer { (p : R → Bool) → Finds p self.old 0 place → result ≡ any p self.old }
         ensures after { (p : R → Bool) → Finds p self.old 0 place → self.new ≡ changed p (λ row. R.Record.stepped row step) self.old }

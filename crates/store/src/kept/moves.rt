@@ -1,7 +1,7 @@
 // What changes the store. A move that does not fit is refused, and then nothing has changed.
 #![tactic(auto, unfolding(crate::specs::Moves::held, crate::specs::Moves::fits, crate::specs::Moves::can_hold, crate::specs::Moves::can_commit, crate::specs::Moves::can_queue_framed, crate::specs::Moves::pended, crate::specs::Moves::added, crate::specs::Moves::others, crate::specs::Moves::hold, crate::specs::Moves::commit, crate::specs::Moves::queue, crate::specs::Moves::queue_framed, crate::specs::Moves::given, crate::specs::Moves::rest, crate::specs::Moves::discard))]
 
-ghost use Rattle.std.specs.Prelude.{◌≡◌, IfOk, OnOk, true};
+ghost use Rattle.std.specs.Prelude.{◌≡◌, IfOk};
 ghost use Rattle.store.specs.Moves.{nothing, done_if, can_hold, hold, can_commit, commit, fits, queue, can_queue_framed, queue_framed, given, rest, discard};
 
 use super::pending::{queue_at, take_out};
@@ -26,7 +26,7 @@ impl EventStore {
         ensures answer { result ≡ done_if (can_hold self.old) }
         ensures after { self.new ≡ hold event self.old }
     {
-        full_unless(self.can_hold())?;
+        EventError::StoreFull.unless(self.can_hold())?;
         self.pending.push_reserved(event.at_time(0));
         Ok(())
     }
@@ -36,7 +36,7 @@ impl EventStore {
         ensures answer { result ≡ done_if (can_commit frame self.old) }
         ensures after { self.new ≡ commit frame self.old }
     {
-        full_unless(self.can_commit(frame))?;
+        EventError::StoreFull.unless(self.can_commit(frame))?;
         if !self.has_pending(frame.device) {
             return Ok(());
         }
@@ -51,7 +51,7 @@ impl EventStore {
         ensures answer { result ≡ done_if (fits 1 self.old) }
         ensures after { self.new ≡ queue event self.old }
     {
-        full_unless(self.fits(1))?;
+        EventError::StoreFull.unless(self.fits(1))?;
         self.queued.push_back_reserved(event);
         Ok(())
     }
@@ -61,7 +61,7 @@ impl EventStore {
         ensures answer { result ≡ done_if (can_queue_framed frame self.old) }
         ensures after { self.new ≡ queue_framed frame event self.old }
     {
-        full_unless(self.can_queue_framed(frame.device))?;
+        EventError::StoreFull.unless(self.can_queue_framed(frame.device))?;
         self.commit(frame)?;
         self.queue(event)
     }
@@ -80,12 +80,4 @@ impl EventStore {
     {
         take_out(&mut self.pending, device);
     }
-}
-
-// Refuses what has no room.
-fn full_unless(room: bool) -> Result<(), EventError>
-    ensures answer { result ≡ done_if room }
-    ensures ok { OnOk result (room ≡ true) }
-{
-    room.then_some(()).ok_or(EventError::StoreFull)
 }

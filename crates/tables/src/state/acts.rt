@@ -20,6 +20,7 @@ pub(super) fn object_of(kind: DeviceCapability, number: u64) -> Object
     Object { kind, number }
 }
 
+// Each interface has its own events by the protocol; what their functions share is `act` and `object_gone`.
 impl Tables {
     pub(super) fn keyboard_event(
         &mut self,

@@ -1,5 +1,5 @@
 // Empty tables, and what can be asked of them.
-ghost use Rattle.std.specs.Prelude.{◌≡◌, IfOk};
+ghost use Rattle.std.specs.Prelude.{◌≡◌, ◌≤◌, IfOk};
 ghost use Rattle.std.specs.Option.{ok_or};
 ghost use Rattle.ei.specs.declared.error.EventError.TheVariants as refusals;
 ghost use Rattle.store.specs.Moves.{has_pending};
@@ -36,7 +36,8 @@ impl Tables {
 
     // The last serial that the server sent.
     pub fn serial(&self) -> u32
-        ensures { result ≡ self.now.serial }
+        ensures value { result ≡ self.now.serial }
+        ensures counted { self.now.handles ≤ 1000000 }
     {
         self.serial
     }

@@ -14,6 +14,8 @@ use records::list::InterfaceList;
 use records::standing::{Head, Standing};
 
 impl Tables {
+    // The two calls share `check_unused`; whose table it is, what it must not have and what is discarded is each one's own.
+
     // Frees the record of a device that owns nothing, and discards its pending events.
     pub fn retire_device(&mut self, handle: u32) -> Result<(), EventError>
         ensures answer { result ≡ (device_retired handle self.old).answer }

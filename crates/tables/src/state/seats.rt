@@ -20,7 +20,8 @@ use records::seat::{SeatSetup, SeatStep};
 use records::standing::{Key, Record};
 
 impl Tables {
-    // A pending seat is told something.
+    // A pending seat is told something. This file and that of devices are alike where they look a row up and step it: over two tables, with
+    // rows, steps and refusals of other types, which one function would have to take apart again.
     fn seat_detailed(&mut self, seat: u64, detail: SeatSetup) -> Result<Rest, EventError>
         ensures { let m = self.old in Gives (λ _. of_pending_seat seat m (done (with_seats (seat_steps seat standings.Pending (steps.Setup detail) m.seats) m))) result self.new }
     {
@@ -99,10 +100,6 @@ impl Tables {
     fn pending_seat(&self, seat: u64) -> Result<(), EventError>
         ensures { result ≡ (if any (seat_at seat standings.Pending) self.now.seats then Ok tt else Err refusals.SeatSetupEventAfterDone) }
     {
-        if self.seats.has(Key::pending(seat)) {
-            Ok(())
-        } else {
-            Err(EventError::SeatSetupEventAfterDone)
-        }
+        EventError::SeatSetupEventAfterDone.unless(self.seats.has(Key::pending(seat)))
     }
 }

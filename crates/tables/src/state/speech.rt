@@ -17,7 +17,8 @@ use ei::event::EiEvent;
 use records::standing::Key;
 
 impl Tables {
-    // What a live device says of itself is an untimed event of its handle.
+    // What a live device says of itself is an untimed event of its handle. A struct of device and serial would be no plainer: each event has
+    // the two as its own fields, and they part here.
     pub(super) fn says<F: FnOnce(u32) -> EiEvent>(
         &mut self,
         device: u64,

@@ -16,6 +16,7 @@ use ei::event::{
 use ei::object::Object;
 use ei::proto::{ScrollEvent, TextEvent, TouchscreenEvent};
 
+// Each interface has its own events by the protocol; what their functions share is `act` and `object_gone`.
 impl Tables {
     pub(super) fn scroll_event(
         &mut self,

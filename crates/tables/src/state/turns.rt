@@ -25,6 +25,7 @@ impl Tables {
             serial: self.serial,
             time,
         };
+        // The places were tested as the tables took the event, and a refusal changes nothing, so there is none to hand on.
         let _ = self.store.queue_framed(frame, event);
     }
 

@@ -1,5 +1,4 @@
 use Rattle.std.proofs.Common.{◌≡◌, codes, sym, subst, rules}
-use Rattle.std.specs.Option.{option_map}
 use Rattle.script.specs.Events.{EventLine}
 use Rattle.script.proofs.events.event.Goals as goal
 use Rattle.script.proofs.events.event.Goals.{in-callback+in_ok-callback_event-in-callback, in-seat+in_ok-seat_event-in-seat, in-device+in_ok-device_event-in-device, in-keyboard+in_ok-keyboard_event-in-keyboard, in-pointer+in_ok-pointer_event-in-pointer, in-pointer_absolute+in_ok-pointer_absolute_event-in-pointer_absolute, in-scroll+in_ok-scroll_event-in-scroll, in-button+in_ok-button_event-in-button, in-touchscreen+in_ok-touchscreen_event-in-touchscreen, in-text+in_ok-text_event-in-text}
@@ -13,7 +12,7 @@ returns c =
           let reads = c.in_ok-object.ensures in
           let says = w.in_ok-device_event-in-device.ensures in
           let on : c.args.interface.now ≡ codes "device" = search rules in
-          subst (λ e. EventLine c.args.interface.now c.args.name.now (option_map (λ x. x.now) c.args.rest.words.rest) e) (sym w.result-is) (on, (_, reads, says))
+          subst (λ e. EventLine c.args.interface.now c.args.name.now c.args.rest.words e) (sym w.result-is) (on, (_, reads, says))
       | in-keyboard+in_ok-keyboard_event-in-keyboard w ↦ search rules
       | in-pointer+in_ok-pointer_event-in-pointer w ↦ search rules
       | in-pointer_absolute+in_ok-pointer_absolute_event-in-pointer_absolute w ↦ search rules

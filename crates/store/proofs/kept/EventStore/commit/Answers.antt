@@ -11,7 +11,7 @@ pub returns-then-not-has_pending-clause-after : goal.returns-then-not-has_pendin
 returns-then-not-has_pending-clause-after c =
     let s = c.args.self.now in
     let f = c.args.frame in
-    sym (commit_done f s (sym c.can_commit.ensures ∙ c.in_ok-full_unless.ensures.ok) ∙ framed_none f s (sym c.if-not-has_pending.ensures))
+    sym (commit_done f s (sym c.can_commit.ensures ∙ c.in_ok-unless.ensures.ok) ∙ framed_none f s (sym c.if-not-has_pending.ensures))
 
 pub returns-clause-after : goal.returns-clause-after
 unfolding framed others pending_for has_pending
@@ -27,4 +27,4 @@ returns-clause-after c =
     c.push_back_reserved.ensures.items
     ∙ (ap (λ l. l ++ (event.Frame f ∷ [])) moved
     ∙ (append_assoc s.queued (map (at_time f.time) es) (event.Frame f ∷ []) ∙ ap (λ l. s.queued ++ l) (sym (batch_some f es (sym c.if-not-has_pending.ensures))))) in
-    same_contents (c.take_out.ensures.items ∙ ap (filter (not_of f.device)) pending) all ∙ sym (commit_done f s (sym c.can_commit.ensures ∙ c.in_ok-full_unless.ensures.ok))
+    same_contents (c.take_out.ensures.items ∙ ap (filter (not_of f.device)) pending) all ∙ sym (commit_done f s (sym c.can_commit.ensures ∙ c.in_ok-unless.ensures.ok))

@@ -9,7 +9,7 @@ unfolding can_queue_framed
 returns-in_err-commit c =
     let s = c.args.self.now in
     let f = c.args.frame in
-    let e : can_queue_framed f s ≡ true = sym c.can_queue_framed.ensures ∙ c.in_ok-full_unless.ensures.ok in
+    let e : can_queue_framed f s ≡ true = sym c.can_queue_framed.ensures ∙ c.in_ok-unless.ensures.ok in
     cc (c.in_err-commit.ensures.answer ∙ ap done_if (framed_first f s e))
 
 pub returns : goal.returns
@@ -17,7 +17,7 @@ unfolding can_queue_framed
 returns c =
     let s = c.args.self.now in
     let f = c.args.frame in
-    let e : can_queue_framed f s ≡ true = sym c.can_queue_framed.ensures ∙ c.in_ok-full_unless.ensures.ok in
+    let e : can_queue_framed f s ≡ true = sym c.can_queue_framed.ensures ∙ c.in_ok-unless.ensures.ok in
     let mid : c.commit.new.self ≡ framed f s = c.commit.ensures.after ∙ commit_done f s (framed_first f s e) in
     record {
       answer = c.queue.ensures.answer ∙ (ap (λ m. done_if (fits 1 m)) mid ∙ (ap done_if (framed_next f s e) ∙ sym (ap done_if e)));
