@@ -42,6 +42,10 @@ module _ {X : Type 0} where
   abbrev pub any : (X → Bool) → List X → Bool
   any p xs = is_some (first p xs)
 
+  -- whether a table of at most n rows has no place for a new one in place of the first that passes
+  abbrev pub lacks_row : (X → Bool) → List X → ℕ → Bool
+  lacks_row p xs n = no_row_for (any p xs) (length xs) n
+
   -- the rows with the first that passes changed
   abbrev pub changed : (X → Bool) → (X → X) → List X → List X
   changed p f [] = []

@@ -5,3 +5,4 @@ pub mod Refusal
 pub mod Rests
 pub mod Rules
 pub mod Told
+pub mod Parts

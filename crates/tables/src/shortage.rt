@@ -58,7 +58,7 @@ impl Shortage {
 
     // The same for a text that may be absent: a function of its own, since its answer may be absent too.
     pub fn check_explanation(self, bytes: Option<&[u8]>) -> Result<Option<Text>, EventError>
-        ensures { result ≡ checked (refusal (of_text (some_too_long (option_map (λ x. x.now) bytes.entry)) self)) (option_map text_of (option_map (λ x. x.now) bytes.entry)) }
+        ensures { let text = option_map (λ x. x.now) bytes.entry in result ≡ checked (refusal (of_text (some_too_long text) self)) (option_map text_of text) }
     {
         let kept = bytes.map(Text::from_bytes);
         let all = Shortage {

@@ -1,7 +1,7 @@
 ghost use Rattle.std.specs.Prelude.{◌≡◌, Bool, [], ◌∷◌, ◌++◌, ◌<◌, ◌≤◌, map, length, IfOk, IfSome, if◌then◌else◌, Ok, Err, nat_lt};
 ghost use Rattle.std.specs.Option.{option_map};
 ghost use Rattle.ei.specs.declared.error.EventError.TheVariants as refusals;
-ghost use Rattle.records.specs.Rows.{Finds, at_key, by_handle, first, any, no_row_for, without, changed, changed_at};
+ghost use Rattle.records.specs.Rows.{Finds, at_key, by_handle, first, any, lacks_row, without, changed, changed_at};
 
 use super::Table;
 use crate::search::{search, search_handle};
@@ -83,8 +83,8 @@ impl<R: Row + Copy, const N: usize> Table<R, N> {
     // A new row at the end, in place of the first of a key if there is one.
     #[tactic(auto, using(crate::proofs::Rows::room_without))]
     pub fn renew(&mut self, key: Key, row: R) -> Result<(), EventError>
-        ensures answer { result ≡ (if no_row_for (any (at_key R.Row.numbered R.Row.stands key) self.old) (length self.old) N then Err refusals.TableFull else Ok tt) }
-        ensures after { self.new ≡ (if no_row_for (any (at_key R.Row.numbered R.Row.stands key) self.old) (length self.old) N then self.old else without (at_key R.Row.numbered R.Row.stands key) self.old ++ row ∷ []) }
+        ensures answer { let p = at_key R.Row.numbered R.Row.stands key in result ≡ (if lacks_row p self.old N then Err refusals.TableFull else Ok tt) }
+        ensures after { let p = at_key R.Row.numbered R.Row.stands key in self.new ≡ (if lacks_row p self.old N then self.old else without p self.old ++ row ∷ []) }
     {
         if self.lacks_room(key) {
             return Err(EventError::TableFull);
@@ -95,7 +95,7 @@ impl<R: Row + Copy, const N: usize> Table<R, N> {
 
     // Whether a new row in place of one of a key finds no room.
     fn lacks_room(&self, key: Key) -> bool
-        ensures { result ≡ no_row_for (any (at_key R.Row.numbered R.Row.stands key) self.now) (length self.now) N }
+        ensures { result ≡ lacks_row (at_key R.Row.numbered R.Row.stands key) self.now N }
     {
         !self.has(key) && !self.has_room()
     }

@@ -1,10 +1,9 @@
 // Records that are no longer wanted.
-ghost use Rattle.std.specs.Prelude.{◌≡◌, false, not, cond, nat_eq, if◌then◌else◌};
+ghost use Rattle.std.specs.Prelude.{◌≡◌, nat_eq, if◌then◌else◌};
 ghost use Rattle.ei.specs.declared.error.EventError.TheVariants as refusals;
-ghost use Rattle.records.specs.Rows.{any, same_standing};
-ghost use Rattle.records.specs.declared.standing.Standing.TheVariants as standings;
-ghost use Rattle.store.specs.Moves.{names};
+ghost use Rattle.records.specs.Rows.{any};
 ghost use Rattle.tables.specs.Rules.{device_retired, owns_any, seat_retired};
+ghost use Rattle.tables.specs.Parts.{unused};
 
 use super::Tables;
 use ei::capability::DeviceCapability;
@@ -48,7 +47,7 @@ impl Tables {
 
     // Refuses a record that is not detached, that has something of its own, or that an event still to be handed out names.
     fn check_unused(&self, head: Head, has_own: bool) -> Result<(), EventError>
-        ensures { result ≡ (if cond (same_standing head.standing standings.Detached) (cond has_own false (not (names head.handle self.now.store))) false then Ok tt else Err refusals.HandleBusy) }
+        ensures { result ≡ (if unused head has_own self.now.store then Ok tt else Err refusals.HandleBusy) }
     {
         let in_use = head.standing != Standing::Detached
             || has_own

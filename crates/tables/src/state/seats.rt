@@ -2,12 +2,11 @@
 ghost use Rattle.std.specs.Prelude.{◌≡◌, if◌then◌else◌};
 ghost use Rattle.ei.specs.declared.error.EventError.TheVariants as refusals;
 ghost use Rattle.records.specs.Rows.{any};
-ghost use Rattle.records.specs.declared.seat.SeatStep.TheVariants as steps;
 ghost use Rattle.records.specs.declared.standing.Standing.TheVariants as standings;
 ghost use Rattle.tables.specs.Calls.{seat_name, seat_capability, seat_done, seat_device, seat_destroyed};
-ghost use Rattle.tables.specs.Model.{done, with_seats};
 ghost use Rattle.tables.specs.Rests.{Gives, Takes};
-ghost use Rattle.tables.specs.Rules.{of_pending_seat, seat_at, seat_steps};
+ghost use Rattle.tables.specs.Rules.{seat_at};
+ghost use Rattle.tables.specs.Parts.{seat_told};
 
 use super::Tables;
 use crate::rest::Rest;
@@ -23,7 +22,7 @@ impl Tables {
     // A pending seat is told something. This file and that of devices are alike where they look a row up and step it: over two tables, with
     // rows, steps and refusals of other types, which one function would have to take apart again.
     fn seat_detailed(&mut self, seat: u64, detail: SeatSetup) -> Result<Rest, EventError>
-        ensures { let m = self.old in Gives (λ _. of_pending_seat seat m (done (with_seats (seat_steps seat standings.Pending (steps.Setup detail) m.seats) m))) result self.new }
+        ensures { Gives (λ _. seat_told seat detail self.old) result self.new }
     {
         self.pending_seat(seat)?;
         self.seats.step(Key::pending(seat), SeatStep::Setup(detail));

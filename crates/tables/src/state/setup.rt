@@ -4,15 +4,11 @@ ghost use Rattle.std.specs.Option.{ok_or};
 ghost use Rattle.std.specs.Result.{result_map_both};
 ghost use Rattle.ei.specs.Texts.{text_of};
 ghost use Rattle.ei.specs.declared.error.EventError.TheVariants as refusals;
-ghost use Rattle.records.specs.Rows.{first};
 ghost use Rattle.records.specs.declared.device.Detail.{Detail};
-ghost use Rattle.records.specs.declared.device.Stage.TheVariants as stages;
-ghost use Rattle.records.specs.declared.standing.Standing.TheVariants as standings;
 ghost use Rattle.tables.specs.Calls.{device_region, device_interface};
-ghost use Rattle.tables.specs.Model.{unless};
-ghost use Rattle.tables.specs.Refusal.{refusal, ample, of_text, too_long};
 ghost use Rattle.tables.specs.Rests.{Gives, Takes};
-ghost use Rattle.tables.specs.Rules.{device_at, device_told, of_pending_device};
+ghost use Rattle.tables.specs.Rules.{device_told, of_pending_device};
+ghost use Rattle.tables.specs.Parts.{pending_device, worded, GivesOnly};
 
 use super::Tables;
 use crate::rest::Rest;
@@ -27,7 +23,7 @@ use records::standing::{Key, Record};
 impl Tables {
     // The device that is being set up.
     pub(super) fn pending(&self, device: u64) -> Result<&DeviceRow, EventError>
-        ensures { result_map_both (λ row. row.now) (λ e. e) result ≡ ok_or (first (device_at device standings.Pending) self.now.devices) refusals.DeviceSetupEventAfterDone }
+        ensures { result_map_both (λ row. row.now) (λ e. e) result ≡ ok_or (pending_device device self.now) refusals.DeviceSetupEventAfterDone }
     {
         self.devices
             .first(Key::pending(device))
@@ -52,7 +48,7 @@ impl Tables {
         detail: F,
     ) -> Result<Rest, EventError>
         requires { F.IsAlwaysCallable detail }
-        ensures { (d : Detail) → ((e : Detail) → F.post detail (text_of text.now) e → e ≡ d) → Gives (λ _. let m = self.old in of_pending_device device m (λ _. unless (refusal (of_text (too_long text.now) ample)) m (device_told device (stages.Setup d) m))) result self.new }
+        ensures { (d : Detail) → GivesOnly (F.post detail (text_of text.now)) d → Gives (λ _. worded device text.now d self.old) result self.new }
     {
         self.pending(device)?;
         let text = Shortage::NONE.check_text(text)?;

@@ -1,14 +1,12 @@
 // What a live device says of itself.
 ghost use Rattle.std.specs.Prelude.{◌≡◌, ℕ, is_ok, if◌then◌else◌};
-ghost use Rattle.std.specs.Option.{option_map, ok_or};
+ghost use Rattle.std.specs.Option.{ok_or};
 ghost use Rattle.ei.specs.declared.error.EventError.TheVariants as refusals;
 ghost use Rattle.ei.specs.declared.event.EiEvent.{EiEvent};
-ghost use Rattle.records.specs.Rows.{first};
-ghost use Rattle.records.specs.declared.standing.Standing.TheVariants as standings;
-ghost use Rattle.tables.specs.Model.{unless, with_serial};
-ghost use Rattle.tables.specs.Refusal.{refusal, of_places};
+ghost use Rattle.tables.specs.Model.{with_serial};
 ghost use Rattle.tables.specs.Rests.{Gives, Makes};
-ghost use Rattle.tables.specs.Rules.{device_at, device_speaks, no_places_for, untimed_queued};
+ghost use Rattle.tables.specs.Rules.{device_speaks};
+ghost use Rattle.tables.specs.Parts.{live_handle, untimed_said};
 
 use super::Tables;
 use crate::rest::Rest;
@@ -34,7 +32,7 @@ impl Tables {
 
     // The handle of a live device. Where there is none the serial is set all the same.
     pub(super) fn live_device(&mut self, device: u64, serial: u32) -> Result<u32, EventError>
-        ensures answer { result ≡ ok_or (option_map (λ row. row.head.handle) (first (device_at device standings.Live) self.old.devices)) refusals.DeviceEventBeforeDone }
+        ensures answer { result ≡ ok_or (live_handle device self.old) refusals.DeviceEventBeforeDone }
         ensures after { self.new ≡ (if is_ok result then self.old else with_serial serial self.old) }
     {
         let handle = self
@@ -66,7 +64,7 @@ impl Tables {
         serial: u32,
         event: EiEvent,
     ) -> Result<Rest, EventError>
-        ensures { let m = self.old in Gives (λ v. unless (refusal (of_places (no_places_for device m.store))) m (untimed_queued v device event (with_serial serial m))) result self.new }
+        ensures { Gives (λ v. untimed_said v device serial event self.old) result self.new }
     {
         self.check_places(device)?;
         self.serial = serial;
