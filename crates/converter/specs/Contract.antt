@@ -42,13 +42,15 @@ shown_as f (Err e) = Err e
 abbrev pub view : HostState → View
 view s = record { reading = s.reading; spare = s.spare }
 
-module _ {Host : Type 0} (state : Host → HostState) where
+module _ {Host : Type 0} (state : Host → HostState) (Stays : Host → Host → Type 0) where
   -- what became of a host: the same where it was not asked; where the time was asked only the next reading is open; where it was asked
-  -- to take a note it did what a host does
+  -- to take a note it did what a host does, and what it keeps besides stays
   abbrev pub WasAsked : Asked → Host → Host → Type 0
   WasAsked nothing_asked before after = after ≡ before
   WasAsked time_asked before after = WaitsOn (state before) (state after)
-  WasAsked (note_asked n) before after = Leaves n (nat_lt 0 (state before).spare) (state before) (state after)
+  WasAsked (note_asked n) before after =
+      Leaves n (nat_lt 0 (state before).spare) (state before) (state after)
+      × Stays before after
 
   -- the call came to this outcome
   pub record Comes (o : Outcome) (r : Result (Unit {0}) EventError) (before after : EiEventConverter Host) : Type 0 where
@@ -60,6 +62,6 @@ module _ {Host : Type 0} (state : Host → HostState) where
   abbrev pub Does : Call → Result (Unit {0}) EventError → EiEventConverter Host → EiEventConverter Host → Type 0
   Does c r before after = Comes (handled (view (state before.host)) c (model before)) r before after
 
-  -- the law at the call: it goes on with every run that led to it
-  abbrev pub Continues : Call → (answer : ℕ) → (given : Option EiEvent) → EiEventConverter Host → EiEventConverter Host → Type 0
-  Continues c answer given before after = GoesOn (state before.host).reading c answer given (model before) (model after)
+-- the law at the call: it goes on with every run that led to it
+abbrev pub Continues : {Host : Type 0} → (Host → HostState) → Call → (answer : ℕ) → (given : Option EiEvent) → EiEventConverter Host → EiEventConverter Host → Type 0
+Continues state c answer given before after = GoesOn (state before.host).reading c answer given (model before) (model after)

@@ -1,5 +1,5 @@
-ghost use Rattle.std.specs.Prelude.{◌≡◌, ◌<◌, MatchOption, ◌≢◌};
-ghost use Rattle.ei.specs.Capabilities.{index_of, interface_name, mask_of, mask_at, no_masks, with_mask};
+ghost use Rattle.std.specs.Prelude.{◌≡◌, ◌<◌, MatchOption, ◌≢◌, bit_or, if◌then◌else◌};
+ghost use Rattle.ei.specs.Capabilities.{index_of, interface_name, mask_of, member, mask_at, no_masks, with_mask};
 
 use crate::set::CapabilitySet;
 
@@ -98,10 +98,20 @@ impl CapabilityMap {
     pub fn mask_of(&self, wanted: CapabilitySet) -> u64
         ensures { result ≡ mask_of self.now wanted.bits }
     {
-        DeviceCapability::ALL
-            .iter()
-            .filter(|capability| wanted.contains(**capability))
-            .map(|capability| self.get(*capability))
-            .fold(0, |joined, mask| joined | mask)
+        DeviceCapability::ALL.iter().fold(
+            0,
+            |mask, capability| self.joined(mask, *capability, wanted),
+        )
+    }
+
+    // A mask, joined with that of a capability if the set has it.
+    fn joined(&self, mask: u64, capability: DeviceCapability, wanted: CapabilitySet) -> u64
+        ensures { result ≡ (if member wanted.bits capability then bit_or mask (mask_at self.now capability) else mask) }
+    {
+        if wanted.contains(capability) {
+            mask | self.get(capability)
+        } else {
+            mask
+        }
     }
 }

@@ -51,4 +51,17 @@ impl<H: Host> Host for SteadyHost<H> {
     fn leave(&mut self, note: Note) -> bool {
         self.below.leave(note)
     }
+
+    // The host below is asked as this one is, since it may have its own way of each.
+    fn pong(&mut self, ping: u64, data: u64) -> bool {
+        self.below.pong(ping, data)
+    }
+
+    fn run(&mut self, ticket: u32, data: u64) -> bool {
+        self.below.run(ticket, data)
+    }
+
+    fn bind(&mut self, seat: u64, mask: u64) -> bool {
+        self.below.bind(seat, mask)
+    }
 }

@@ -1,10 +1,6 @@
 -- An interface list is its entries, and the loops over them.
 use mathlib.Core.HLevel.{is_prop→PathP}
-use Rattle.std.proofs.Common.{◌≡◌, ℕ, zero, suc, ◌<◌, List, [], ◌∷◌, map, length, get_or, Option, sym, refl, subst, ◌∙◌, zero-le, ⊎_elim, arith, ◌+◌, ◌≤◌}
-use Rattle.std.specs.Array.{IsFromFnResult, IsFromFnResultFrom}
-use Rattle.std.specs.Fn.{Mut}
-use Rattle.std.specs.Iterator.{ActsAs}
-use Rattle.std.proofs.Math.Nat.{eq-or-lt_of_le}
+use Rattle.std.proofs.Common.{◌≡◌, ℕ, zero, suc, ◌<◌, List, [], ◌∷◌, map, length, get_or, Option, sym, refl, ◌∙◌, arith}
 use Rattle.std.proofs.lemmas.List.{ext_get_or, get_or-map, length-map}
 use base.Stored.{Coded-set, coded_ℕ}
 use Rattle.records.specs.declared.list.Entry.{Entry}
@@ -17,18 +13,6 @@ same_list a b e = λ i. record { entries = e i; long = is_prop→PathP (λ j. le
 -- a call at each element, or at each pair of them
 pub mapped : {X : Type 0} (f : X → X) (xs ys : List X) (n : ℕ) (d : X) → length xs ≡ n → length ys ≡ n → ((k : ℕ) → k < n → get_or ys k d ≡ f (get_or xs k d)) → ys ≡ map f xs
 mapped f xs ys n d lx ly h = ext_get_or d ys (map f xs) (ly ∙ sym (length-map xs f ∙ lx)) (λ k b. h k (omega arith) ∙ sym (get_or-map f xs k d d (omega arith)))
-
--- `from_fn` of a closure that computes f, and that its calls leave as it was
-module _ {F B : Type 0} (g : Mut F (ℕ × Unit {0}) B) (f : F) (of : ℕ → B) (acts : ActsAs g f of) where
-  built_from : (ys : List B) (i n : ℕ) → IsFromFnResultFrom g f ys i n → (k : ℕ) (d : B) → i ≤ k → k < i + n → get_or ys k d ≡ of k
-  built_from ys i zero h k d low high = absurd (omega arith)
-  built_from ys i (suc n) h k d low high =
-      ⊎_elim (λ (e : i ≡ k). subst (λ (j : ℕ). get_or ys j d ≡ of j) e (h.2.1 d ∙ (acts i h.1 h.0 h.3).1))
-      (λ (l : i < k). built_from ys (i + 1) n (subst (λ (q : F). IsFromFnResultFrom g q ys (i + 1) n) (acts i h.1 h.0 h.3).0 h.4) k d (omega arith) (omega arith))
-      (eq-or-lt_of_le low)
-
-  pub built : (ys : List B) (n : ℕ) → IsFromFnResult g f ys n → (k : ℕ) (d : B) → k < n → get_or ys k d ≡ of k
-  built ys n h k d b = built_from ys 0 n h.each k d zero-le (omega arith)
 
 disowned_at : (xs es : List (Option Entry)) (k : ℕ) (d : Option Entry) → k < length xs → k < length es → get_or (disowned_entries xs es) k d ≡ disowned_entry (get_or xs k d) (get_or es k d)
 disowned_at [] es k d b c = absurd (omega arith)

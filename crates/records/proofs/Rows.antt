@@ -9,10 +9,10 @@ use Rattle.records.specs.Rows.{Finds, first, any, no_row_for, changed, without, 
 
 module _ {X : Type 0} (p : X → Bool) where
   -- what holds of each up to a place holds of the first, and of each of the others
-  head_passed : (x : X) (xs : List X) (n : ℕ) → AllWithin (λ y. p y ≡ false) (x ∷ xs) 0 (suc n) → p x ≡ false
+  pub head_passed : (x : X) (xs : List X) (n : ℕ) → AllWithin (λ y. p y ≡ false) (x ∷ xs) 0 (suc n) → p x ≡ false
   head_passed x xs n e = e 0 x (zero-le) (omega arith)
 
-  tail_passed : (x : X) (xs : List X) (n : ℕ) → AllWithin (λ y. p y ≡ false) (x ∷ xs) 0 (suc n) → AllWithin (λ y. p y ≡ false) xs 0 n
+  pub tail_passed : (x : X) (xs : List X) (n : ℕ) → AllWithin (λ y. p y ≡ false) (x ∷ xs) 0 (suc n) → AllWithin (λ y. p y ≡ false) xs 0 n
   tail_passed x xs n e k d low high = e (suc k) d zero-le (suc-le-suc high)
 
   pub first_none : (xs : List X) → AllWithin (λ y. p y ≡ false) xs 0 (length xs) → first p xs ≡ None
@@ -43,7 +43,7 @@ module _ {X : Type 0} (p : X → Bool) where
       at None h f = absurd (omega (arith, h.3, f.1))
       at (Some x) h f = ap Some h.1 ∙ sym (first_found xs i x.now f)
 
-  changed_found : (f : X → X) (xs : List X) (i : ℕ) (d : X) → Finds p xs 0 (Some i) → changed p f xs ≡ set xs i (f (get_or xs i d))
+  pub changed_found : (f : X → X) (xs : List X) (i : ℕ) (d : X) → Finds p xs 0 (Some i) → changed p f xs ≡ set xs i (f (get_or xs i d))
   changed_found f [] i d s = absurd (omega (arith, s.1))
   changed_found f (x ∷ xs) zero d s = cond-true (p x) _ _ (s.2 d)
   changed_found f (x ∷ xs) (suc i) d s = cond-false (p x) _ _ (head_passed x xs i s.3) ∙ ap (λ l. x ∷ l) (changed_found f xs i d (next_found x xs i s))
@@ -54,7 +54,7 @@ module _ {X : Type 0} (p : X → Bool) where
   without_found (x ∷ xs) (suc i) s = cond-false (p x) _ _ (head_passed x xs i s.3) ∙ ap (λ l. x ∷ l) (without_found xs i (next_found x xs i s))
 
 module _ {X : Type 0} (f : X → X) where
-  changed_at_within : (xs : List X) (i : ℕ) (d : X) → i < length xs → changed_at i f xs ≡ set xs i (f (get_or xs i d))
+  pub changed_at_within : (xs : List X) (i : ℕ) (d : X) → i < length xs → changed_at i f xs ≡ set xs i (f (get_or xs i d))
   changed_at_within [] i d h = absurd (omega arith)
   changed_at_within (x ∷ xs) zero d h = refl
   changed_at_within (x ∷ xs) (suc i) d h = ap (λ l. x ∷ l) (changed_at_within xs i d (omega arith))
@@ -75,7 +75,7 @@ module _ {X : Type 0} (p : X → Bool) where
   any_found [] (Some i) f = absurd (omega (arith, f.1))
   any_found (x ∷ xs) (Some i) f = sym (ap is_some (first_found p (x ∷ xs) i x f))
 
-  length_without : (xs : List X) → length (without p xs) + cond (any p xs) 1 0 ≡ length xs
+  pub length_without : (xs : List X) → length (without p xs) + cond (any p xs) 1 0 ≡ length xs
   length_without [] = refl
   length_without (x ∷ xs) = at_head (p x) (length_without xs)
     where

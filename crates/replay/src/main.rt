@@ -91,28 +91,35 @@ impl Replay {
         Ok(())
     }
 
-    // Takes one line.
-    fn take(&mut self, rt: &(impl Print + Eprint), number: u64, text: &[u8]) -> anyhow::Result<()> {
+    // Takes one line, and answers whether it could be read. No error of the program for that: the room for one would be cleared at each line.
+    fn take(
+        &mut self,
+        rt: &(impl Print + Eprint),
+        number: u64,
+        text: &[u8],
+    ) -> anyhow::Result<bool> {
         let line = match parse(text, &mut self.scratch) {
             Ok(line) => line,
-            Err(malformed) => return refused(rt, number, malformed),
+            Err(malformed) => return Ok(refused(rt, number, malformed)?),
         };
         if let Line::Start { serial } = line {
             self.end(rt)?;
-            return self.start(serial);
+            self.start(serial)?;
+            return Ok(true);
         }
         match &mut self.session {
-            Some(converter) => Ok(play(rt, converter, line)?),
-            None if matches!(line, Line::Skip) => Ok(()),
-            None => refused(rt, number, "no session is started"),
+            Some(converter) => play(rt, converter, line)?,
+            None if matches!(line, Line::Skip) => {}
+            None => return Ok(refused(rt, number, "no session is started")?),
         }
+        Ok(true)
     }
 }
 
-// Says why a line is refused, and ends the program.
-fn refused(rt: &impl Eprint, number: u64, why: impl fmt::Display + Drop) -> anyhow::Result<()> {
+// Says why a line is refused.
+fn refused(rt: &impl Eprint, number: u64, why: impl fmt::Display + Drop) -> io::Result<bool> {
     eprintln!(rt; "line {number}: {why}")?;
-    Err(anyhow!("the session file is malformed"))
+    Ok(false)
 }
 
 // A line without its line feed.
@@ -130,7 +137,9 @@ fn run(rt: &HostRuntime, heap: Global) -> anyhow::Result<()> {
         if reader.read_until(b'\n', &mut line)? == 0 {
             break;
         }
-        replay.take(rt, number, without_feed(&line))?;
+        if !replay.take(rt, number, without_feed(&line))? {
+            return Err(anyhow!("the session file is malformed"));
+        }
     }
     replay.end(rt)?;
     Ok(())

@@ -13,7 +13,7 @@ abbrev pub is_owned : Option Entry → Bool
 is_owned None = false
 is_owned (Some e) = e.owned
 
-owns_any_is : (es : List (Option Entry)) → list_any is_owned es ≡ owns_any es
+pub owns_any_is : (es : List (Option Entry)) → list_any is_owned es ≡ owns_any es
 owns_any_is [] = refl
 owns_any_is (None ∷ es) = owns_any_is es
 owns_any_is (Some e ∷ es) = by e.owned (owns_any_is es)

@@ -1,11 +1,11 @@
 -- What a converter holds, as a value, and what comes of a call.
-use Rattle.std.specs.Prelude.{ℕ, List, [], Some, None, Ok, Err, Option, Result}
+use Rattle.std.specs.Prelude.{ℕ, ◌≤◌, List, [], length, Some, None, Ok, Err, Option, Result}
 use Rattle.ei.specs.declared.error.EventError.{EventError}
 use Rattle.host.specs.declared.Note.{Note}
 use Rattle.records.specs.declared.callback.CallbackRow.{CallbackRow}
 use Rattle.records.specs.declared.device.DeviceRow.{DeviceRow}
 use Rattle.records.specs.declared.seat.SeatRow.{SeatRow}
-use Rattle.store.specs.Moves.{Contents, nothing}
+use Rattle.store.specs.Moves.{Contents, held, nothing}
 
 pub record Model : Type 0 where
   -- the last serial that the server sent
@@ -17,6 +17,14 @@ pub record Model : Type 0 where
   pub devices : List DeviceRow
   pub callbacks : List CallbackRow
   pub store : Contents
+
+-- what is never passed: handles given, rows of each table, and events held
+pub record Bounded (m : Model) : Type 0 where
+  pub handles : m.handles ≤ 1000000
+  pub seats : length m.seats ≤ 16
+  pub devices : length m.devices ≤ 32
+  pub callbacks : length m.callbacks ≤ 32
+  pub events : held m.store ≤ 256
 
 -- a converter that is new
 abbrev pub fresh : ℕ → Model

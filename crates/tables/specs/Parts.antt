@@ -13,7 +13,7 @@ use Rattle.records.specs.declared.standing.Standing.TheVariants.{Pending, Live, 
 use Rattle.store.specs.Moves.{Contents, names}
 use Rattle.tables.specs.Model.{Model, View, Outcome, done, unless, with_seats, with_serial}
 use Rattle.tables.specs.Refusal.{refusal, ample, of_text, of_places, too_long}
-use Rattle.tables.specs.Rules.{device_at, device_told, no_places_for, of_pending_device, of_pending_seat, seat_steps, untimed_queued}
+use Rattle.tables.specs.Rules.{device_at, device_told, no_places_for, of_pending_device, seat_steps, untimed_queued}
 
 -- the device that is being set up, and the handle of the live one
 abbrev pub pending_device : ℕ → Model → Option DeviceRow
@@ -22,9 +22,9 @@ pending_device n m = first (device_at n Pending) m.devices
 abbrev pub live_handle : ℕ → Model → Option ℕ
 live_handle n m = option_map (λ row. row.head.handle) (first (device_at n Live) m.devices)
 
--- a pending seat is told something
+-- a seat that is being set up is told something
 abbrev pub seat_told : ℕ → SeatSetup → Model → Outcome
-seat_told n detail m = of_pending_seat n m (done (with_seats (seat_steps n Pending (seat_stages.Setup detail) m.seats) m))
+seat_told n detail m = done (with_seats (seat_steps n Pending (seat_stages.Setup detail) m.seats) m)
 
 -- a pending device is told a text, which is kept as this detail
 abbrev pub worded : ℕ → List ℕ → Detail → Model → Outcome

@@ -1,3 +1,4 @@
 pub mod Numbers
 pub mod Quoting
+pub mod Refusing
 pub mod Words

@@ -1,4 +1,5 @@
-ghost use Rattle.std.specs.Prelude.{◌≡◌};
+ghost use Rattle.std.specs.Prelude.{◌≡◌, Some};
+ghost use Rattle.wording.specs.Refusing.{message};
 ghost use Rattle.wording.specs.declared.malformed.Malformed.TheVariants.{NoMemory};
 
 use std::alloc::AllocFailed;
@@ -20,19 +21,20 @@ pub enum Malformed {
 
 // Written out: a derive would put a library under the crate that stands on none.
 impl fmt::Display for Malformed {
+    ghost output = { λ malformed. Some (message malformed) };
+
     fn fmt<W: fmt::Write>(&self, f: &mut fmt::Formatter<W>) -> fmt::Result {
-        let message = match self {
-            Malformed::UnknownWord => "unknown call or event",
-            Malformed::MissingWord => "a word is missing",
-            Malformed::ExtraWord => "a word too many",
-            Malformed::NotANumber => "not a decimal number",
-            Malformed::OutOfRange => "number out of range",
-            Malformed::NotAFloat => "not 0x and eight hex digits",
-            Malformed::BadText => "not a text in double quotes",
-            Malformed::NotInTable => "no value of its type has this number",
-            Malformed::NoMemory => "no memory for the text",
-        };
-        write!(f, "{message}")
+        match self {
+            Malformed::UnknownWord => write!(f, "unknown call or event"),
+            Malformed::MissingWord => write!(f, "a word is missing"),
+            Malformed::ExtraWord => write!(f, "a word too many"),
+            Malformed::NotANumber => write!(f, "not a decimal number"),
+            Malformed::OutOfRange => write!(f, "number out of range"),
+            Malformed::NotAFloat => write!(f, "not 0x and eight hex digits"),
+            Malformed::BadText => write!(f, "not a text in double quotes"),
+            Malformed::NotInTable => write!(f, "no value of its type has this number"),
+            Malformed::NoMemory => write!(f, "no memory for the text"),
+        }
     }
 }
 

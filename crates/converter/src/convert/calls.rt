@@ -35,7 +35,7 @@ impl<H: Host> EiEventConverter<H> {
 
     // Takes a low-level event.
     pub fn handle_event(&mut self, event: Event<'_>) -> Result<(), EventError>
-        ensures outcome { Does H.state (told event.entry) result self.old self.new }
+        ensures outcome { Does H.state H.stays (told event.entry) result self.old self.new }
         ensures law { Continues H.state (told event.entry) (answer_of result) None self.old self.new }
     {
         let rest = self.tables.handle(event)?;
@@ -60,7 +60,7 @@ impl<H: Host> EiEventConverter<H> {
 
     // Keeps a ticket for a callback, in place of an earlier one.
     pub fn add_callback_handler(&mut self, callback: u64, ticket: u32) -> Result<(), EventError>
-        ensures outcome { Does H.state (add_callback callback ticket) result self.old self.new }
+        ensures outcome { Does H.state H.stays (add_callback callback ticket) result self.old self.new }
         ensures law { Continues H.state (add_callback callback ticket) (answer_of result) None self.old self.new }
     {
         self.tables.add_callback(callback, ticket)
@@ -68,7 +68,7 @@ impl<H: Host> EiEventConverter<H> {
 
     // Asks the server for a seat's capabilities.
     pub fn bind_capabilities(&mut self, seat: u32, wanted: CapabilitySet) -> Result<(), EventError>
-        ensures outcome { Does H.state (bind seat wanted.bits) result self.old self.new }
+        ensures outcome { Does H.state H.stays (bind seat wanted.bits) result self.old self.new }
         ensures law { Continues H.state (bind seat wanted.bits) (answer_of result) None self.old self.new }
     {
         let row = self.seat_row(seat)?;
@@ -81,7 +81,7 @@ impl<H: Host> EiEventConverter<H> {
 
     // Frees the record of a seat that is gone from the server.
     pub fn retire_seat(&mut self, seat: u32) -> Result<(), EventError>
-        ensures outcome { Does H.state (retire_seat seat) result self.old self.new }
+        ensures outcome { Does H.state H.stays (retire_seat seat) result self.old self.new }
         ensures law { Continues H.state (retire_seat seat) (answer_of result) None self.old self.new }
     {
         self.tables.retire_seat(seat)
@@ -89,7 +89,7 @@ impl<H: Host> EiEventConverter<H> {
 
     // Frees the record of a device that is gone from the server, and discards what is pending for it.
     pub fn retire_device(&mut self, device: u32) -> Result<(), EventError>
-        ensures outcome { Does H.state (retire_device device) result self.old self.new }
+        ensures outcome { Does H.state H.stays (retire_device device) result self.old self.new }
         ensures law { Continues H.state (retire_device device) (answer_of result) None self.old self.new }
     {
         self.tables.retire_device(device)

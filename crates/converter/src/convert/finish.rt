@@ -15,7 +15,7 @@ use tables::rest::Rest;
 impl<H: Host> EiEventConverter<H> {
     // Does what is left of a call.
     pub(super) fn finish(&mut self, rest: Rest) -> Result<(), EventError>
-        ensures { Comes H.state (finish (view (H.state self.old.host)) (Ok rest) (model self.old)) result self.old self.new }
+        ensures { Comes H.state H.stays (finish (view (H.state self.old.host)) (Ok rest) (model self.old)) result self.old self.new }
     {
         match rest {
             Rest::Nothing => Ok(()),
@@ -39,7 +39,7 @@ impl<H: Host> EiEventConverter<H> {
     // Queues an untimed event of a device, behind the frame that it may force.
     #[tactic(auto, using(crate::proofs::Frames::forced_time))]
     fn queue_untimed(&mut self, device: u32, event: EiEvent)
-        ensures { Comes H.state (untimed_queued (view (H.state self.old.host)) device event (model self.old)) (Ok tt) self.old self.new }
+        ensures { Comes H.state H.stays (untimed_queued (view (H.state self.old.host)) device event (model self.old)) (Ok tt) self.old self.new }
     {
         let time = self.frame_time(device);
         self.tables.queue_untimed(device, time, event);
@@ -49,7 +49,7 @@ impl<H: Host> EiEventConverter<H> {
     fn frame_time(&mut self, device: u32) -> u64
         ensures time { result ≡ (if has_pending device (model self.old).store then (H.state self.old.host).reading else 0) }
         ensures left { model self.new ≡ model self.old }
-        ensures asked { WasAsked H.state (if has_pending device (model self.old).store then time_asked else nothing_asked) self.old.host self.new.host }
+        ensures asked { WasAsked H.state H.stays (if has_pending device (model self.old).store then time_asked else nothing_asked) self.old.host self.new.host }
     {
         if self.tables.has_pending(device) {
             self.host.now()

@@ -4,6 +4,7 @@ ghost use Rattle.std.specs.Option.{option_map};
 ghost use Rattle.ei.specs.Capabilities.{mask_at};
 ghost use Rattle.ei.specs.declared.error.EventError.TheVariants as refusals;
 ghost use Rattle.records.specs.Listing.{entry_at};
+ghost use Rattle.tables.specs.Model.{Bounded};
 ghost use Rattle.converter.specs.Contract.{model, seat_at, device_at, of_seat, of_device, shown_as};
 
 use super::EiEventConverter;
@@ -21,7 +22,8 @@ use records::seat::SeatRow;
 impl<H: Host> EiEventConverter<H> {
     // The last serial that the server sent.
     pub fn serial(&self) -> u32
-        ensures { result ≡ (model self.now).serial }
+        ensures value { result ≡ (model self.now).serial }
+        ensures bounds { Bounded (model self.now) }
     {
         self.tables.serial()
     }

@@ -4,7 +4,6 @@ ghost use Rattle.records.specs.Listing.{entry_at, no_entries, with_entry, all_ow
 use super::{Entry, InterfaceList};
 use ei::capability::DeviceCapability;
 use ei::object::Object;
-use std::array;
 
 impl InterfaceList {
     #[tactic(auto, using(crate::proofs::Listing::same_list), unfolding(crate::specs::Listing::no_entries))]
@@ -53,8 +52,9 @@ impl InterfaceList {
     pub fn give_up(&mut self, other: InterfaceList)
         ensures { self.new ≡ given_up other self.old }
     {
-        let entries = self.entries;
-        self.entries = array::from_fn(|kind| disowned(other.entries[kind], entries[kind]));
+        for (kind, entry) in self.entries.iter_mut().enumerate() {
+            *entry = disowned(other.entries[kind], *entry);
+        }
     }
 }
 

@@ -1,4 +1,6 @@
 // What the three hosts answer, call by call.
+ghost use Rattle.host.specs.Showing.{kept, shown};
+
 use host::{Host, KeptHost, Note, SteadyHost, TapeHost};
 use std::process::Abort;
 use std::test::Fail;
@@ -115,6 +117,67 @@ fn a_steady_host_passes_notes_on(rt: HostRuntime) -> Result<(), Fail> {
         Some(Note::Bind { seat: 5, mask: 6 })
     );
     assert_eq!(rt; host.below.take_note(), None);
+    Ok(())
+}
+
+// A host that has its own way of each note: it counts how it was asked.
+#[derive(Drop)]
+struct CountingHost {
+    kept: KeptHost,
+    pongs: u32,
+    runs: u32,
+    binds: u32,
+}
+
+impl Host for CountingHost {
+    ghost state = { λ h. shown kept h.kept };
+
+    fn now(&mut self) -> u64 {
+        self.kept.now()
+    }
+
+    fn leave(&mut self, note: Note) -> bool {
+        self.kept.leave(note)
+    }
+
+    fn pong(&mut self, ping: u64, data: u64) -> bool {
+        self.pongs = self.pongs.saturating_add(1);
+        self.kept.pong(ping, data)
+    }
+
+    fn run(&mut self, ticket: u32, data: u64) -> bool {
+        self.runs = self.runs.saturating_add(1);
+        self.kept.run(ticket, data)
+    }
+
+    fn bind(&mut self, seat: u64, mask: u64) -> bool {
+        self.binds = self.binds.saturating_add(1);
+        self.kept.bind(seat, mask)
+    }
+}
+
+// The host below is asked by the same call as the steady host.
+#[test]
+fn a_steady_host_asks_as_it_is_asked(rt: HostRuntime) -> Result<(), Fail> {
+    let mut host = SteadyHost::new(CountingHost {
+        kept: KeptHost::new(rt.alloc())?,
+        pongs: 0,
+        runs: 0,
+        binds: 0,
+    });
+    assert!(rt; host.pong(1, 2));
+    assert!(rt; host.run(3, 4));
+    assert!(rt; host.run(3, 5));
+    assert!(rt; host.bind(5, 6));
+    assert!(rt; host.bind(5, 7));
+    assert!(rt; host.bind(5, 8));
+    let CountingHost {
+        pongs,
+        runs,
+        binds,
+        ..
+    } = host.into_below();
+    assert_eq!(rt; (pongs, runs, binds), (1, 2, 3));
     Ok(())
 }
 

@@ -36,10 +36,11 @@ impl EventStore {
         ensures answer { result ≡ done_if (can_commit frame self.old) }
         ensures after { self.new ≡ commit frame self.old }
     {
-        EventError::StoreFull.unless(self.can_commit(frame))?;
+        // `can_commit` in two steps, so that what is pending is looked through once
         if !self.has_pending(frame.device) {
             return Ok(());
         }
+        EventError::StoreFull.unless(self.fits(1))?;
         queue_at(&self.pending, frame.device, frame.time, &mut self.queued);
         take_out(&mut self.pending, frame.device);
         self.queued.push_back_reserved(EiEvent::Frame(frame));

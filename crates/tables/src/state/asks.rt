@@ -1,9 +1,9 @@
 // Empty tables, and what can be asked of them.
-ghost use Rattle.std.specs.Prelude.{◌≡◌, ◌≤◌, IfOk};
+ghost use Rattle.std.specs.Prelude.{◌≡◌, IfOk};
 ghost use Rattle.std.specs.Option.{ok_or};
 ghost use Rattle.ei.specs.declared.error.EventError.TheVariants as refusals;
 ghost use Rattle.store.specs.Moves.{has_pending};
-ghost use Rattle.tables.specs.Model.{fresh};
+ghost use Rattle.tables.specs.Model.{fresh, Bounded};
 ghost use Rattle.tables.specs.Refusal.{refusal, checked, of_places, of_places_and_handles};
 ghost use Rattle.tables.specs.Rules.{next_handle, no_handle, no_places_for, owner_of};
 
@@ -34,11 +34,15 @@ impl Tables {
         })
     }
 
-    // The last serial that the server sent.
+    // The last serial that the server sent. Whoever asks is told of all bounds; each table and the store know their own, and are asked for it.
     pub fn serial(&self) -> u32
         ensures value { result ≡ self.now.serial }
-        ensures counted { self.now.handles ≤ 1000000 }
+        ensures bounds { Bounded self.now }
     {
+        let _ = self.seats.rows();
+        let _ = self.devices.rows();
+        let _ = self.callbacks.rows();
+        let _ = self.store.held();
         self.serial
     }
 

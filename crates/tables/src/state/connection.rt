@@ -29,7 +29,11 @@ impl Tables {
     ) -> Result<Rest, EventError>
         ensures { Takes (disconnected last_serial reason (option_map (λ x. x.now) explanation.entry)) self.old result self.new }
     {
-        let explanation = Shortage::NONE.check_explanation(explanation)?;
+        let short = Shortage {
+            store_full: !self.store.fits(1),
+            ..Shortage::NONE
+        };
+        let explanation = short.check_explanation(explanation)?;
         self.store.queue(EiEvent::Disconnected(Disconnected {
             last_serial,
             reason,

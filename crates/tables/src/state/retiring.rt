@@ -13,7 +13,8 @@ use records::list::InterfaceList;
 use records::standing::{Head, Standing};
 
 impl Tables {
-    // The two calls share `check_unused`; whose table it is, what it must not have and what is discarded is each one's own.
+    // The two calls share `check_unused`; whose table it is, what it must not have and what is discarded is each one's own. What it has is
+    // sought for a detached record alone, so that a live one is refused at once.
 
     // Frees the record of a device that owns nothing, and discards its pending events.
     pub fn retire_device(&mut self, handle: u32) -> Result<(), EventError>
@@ -24,7 +25,8 @@ impl Tables {
             .devices
             .by_handle(handle)
             .ok_or(EventError::NoSuchHandle)?;
-        self.check_unused(row.head, owns_any(&row.list))?;
+        let has_own = row.head.standing == Standing::Detached && owns_any(&row.list);
+        self.check_unused(row.head, has_own)?;
         self.devices.remove_handle(handle);
         self.store.discard(handle);
         Ok(())
@@ -40,7 +42,9 @@ impl Tables {
             .by_handle(handle)
             .ok_or(EventError::NoSuchHandle)?;
         let head = row.head;
-        self.check_unused(head, some_of_seat(self.devices.rows(), head.handle))?;
+        let has_own = head.standing == Standing::Detached
+            && some_of_seat(self.devices.rows(), head.handle);
+        self.check_unused(head, has_own)?;
         self.seats.remove_handle(handle);
         Ok(())
     }

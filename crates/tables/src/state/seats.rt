@@ -19,12 +19,11 @@ use records::seat::{SeatSetup, SeatStep};
 use records::standing::{Key, Record};
 
 impl Tables {
-    // A pending seat is told something. This file and that of devices are alike where they look a row up and step it: over two tables, with
-    // rows, steps and refusals of other types, which one function would have to take apart again.
+    // A pending seat, which was found already, is told something. This file and that of devices are alike where they look a row up and step
+    // it: over two tables, with rows, steps and refusals of other types, which one function would have to take apart again.
     fn seat_detailed(&mut self, seat: u64, detail: SeatSetup) -> Result<Rest, EventError>
         ensures { Gives (λ _. seat_told seat detail self.old) result self.new }
     {
-        self.pending_seat(seat)?;
         self.seats.step(Key::pending(seat), SeatStep::Setup(detail));
         Ok(Rest::Nothing)
     }

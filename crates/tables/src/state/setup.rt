@@ -35,6 +35,13 @@ impl Tables {
         ensures { let m = self.old in Gives (λ _. of_pending_device device m (λ _. device_told device stage m)) result self.new }
     {
         self.pending(device)?;
+        self.take_stage(device, stage)
+    }
+
+    // The same of a device that was found already, so that it is sought but once more.
+    fn take_stage(&mut self, device: u64, stage: Stage) -> Result<Rest, EventError>
+        ensures { let m = self.old in Gives (λ _. device_told device stage m) result self.new }
+    {
         self.devices
             .step(Key::pending(device), DeviceStep::Take(stage));
         Ok(Rest::Nothing)
@@ -52,7 +59,7 @@ impl Tables {
     {
         self.pending(device)?;
         let text = Shortage::NONE.check_text(text)?;
-        self.device_told(device, Stage::Setup(detail(text)))
+        self.take_stage(device, Stage::Setup(detail(text)))
     }
 
     pub(super) fn device_placed(&mut self, device: u64, region: Region) -> Result<Rest, EventError>
@@ -64,7 +71,7 @@ impl Tables {
             ..Shortage::NONE
         };
         short.check()?;
-        self.device_told(device, Stage::Setup(Detail::Region(region)))
+        self.take_stage(device, Stage::Setup(Detail::Region(region)))
     }
 
     // An object of no kind is not kept.
@@ -77,7 +84,7 @@ impl Tables {
     {
         self.pending(device)?;
         match object {
-            Some(object) => self.device_told(device, Stage::Interface(object)),
+            Some(object) => self.take_stage(device, Stage::Interface(object)),
             None => Ok(Rest::Nothing),
         }
     }

@@ -132,7 +132,11 @@ impl Tables {
         ensures { Takes (act object (utf8 text.now)) self.old result self.new }
     {
         let device = self.owner(object)?;
-        let text = Shortage::NONE.check_text(text)?;
+        let short = Shortage {
+            store_full: !self.store.can_hold(),
+            ..Shortage::NONE
+        };
+        let text = short.check_text(text)?;
         self.hold(EiEvent::TextUtf8(TextUtf8 {
             device,
             time: 0,

@@ -1,20 +1,24 @@
-use Rattle.std.proofs.Common.{◌≡◌, [], ◌∷◌, ◌++◌, map, deque_items, filter, sym, refl, ap, ◌∙◌}
+use Rattle.std.proofs.Common.{◌≡◌, true, [], ◌∷◌, ◌++◌, map, deque_items, filter, sym, refl, ap, ◌∙◌}
+use Rattle.std.proofs.lemmas.Bool.{cond-true, cond-false}
 use Rattle.std.proofs.lemmas.List.{append_assoc}
 use Rattle.ei.specs.Events.{at_time}
 use Rattle.ei.specs.declared.event.EiEvent.TheVariants as event
-use Rattle.store.specs.Moves.{not_of, has_pending, pending_for, others, framed}
+use Rattle.store.specs.Moves.{not_of, has_pending, pending_for, others, can_commit, framed}
 use Rattle.store.proofs.Handles.{commit_done, framed_none}
 use Rattle.store.proofs.Stores.{same_contents, batch_some}
 use Rattle.store.proofs.kept.EventStore.commit.Goals as goal
 
 pub returns-then-not-has_pending-clause-after : goal.returns-then-not-has_pending-clause-after
+unfolding can_commit
 returns-then-not-has_pending-clause-after c =
     let s = c.args.self.now in
     let f = c.args.frame in
-    sym (commit_done f s (sym c.can_commit.ensures ∙ c.in_ok-unless.ensures.ok) ∙ framed_none f s (sym c.if-not-has_pending.ensures))
+    let none = sym c.if-not-has_pending.ensures in
+    let fit : can_commit f s ≡ true = cond-false (has_pending f.device s) _ _ none in
+    sym (commit_done f s fit ∙ framed_none f s none)
 
 pub returns-clause-after : goal.returns-clause-after
-unfolding framed others pending_for has_pending
+unfolding can_commit framed others pending_for has_pending
 returns-clause-after c =
     let s = c.args.self.now in
     let f = c.args.frame in
@@ -27,4 +31,5 @@ returns-clause-after c =
     c.push_back_reserved.ensures.items
     ∙ (ap (λ l. l ++ (event.Frame f ∷ [])) moved
     ∙ (append_assoc s.queued (map (at_time f.time) es) (event.Frame f ∷ []) ∙ ap (λ l. s.queued ++ l) (sym (batch_some f es (sym c.if-not-has_pending.ensures))))) in
-    same_contents (c.take_out.ensures.items ∙ ap (filter (not_of f.device)) pending) all ∙ sym (commit_done f s (sym c.can_commit.ensures ∙ c.in_ok-unless.ensures.ok))
+    let fit : can_commit f s ≡ true = cond-true (has_pending f.device s) _ _ (sym c.if-not-has_pending.ensures) ∙ (sym c.fits.ensures ∙ c.in_ok-unless.ensures.ok) in
+    same_contents (c.take_out.ensures.items ∙ ap (filter (not_of f.device)) pending) all ∙ sym (commit_done f s fit)
